@@ -1,0 +1,3 @@
+-- What the contracts and laws of every crate cite.
+pub mod Numbers
+pub mod Room
