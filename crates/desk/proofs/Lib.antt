@@ -1,3 +1,7 @@
 -- Laws that other crates cite.
+pub mod Choice
+pub mod Cutting
 pub mod Entering
+pub mod Pushing
 pub mod Room
+pub mod Search

@@ -4,23 +4,41 @@ ghost use mathlib.Core.List.{[], _∷_};
 ghost use Rattle.desk.specs.Numbers.{entryOf};
 
 pub const DONE: u8 = 0;
+
 pub const TOO_LONG: u8 = 1;
+
 pub const BAD_STATE: u8 = 2;
+
 pub const BAD_WIDTH: u8 = 3;
+
 pub const BITS_RUN_OUT: u8 = 4;
+
 pub const EXP_GOLOMB_TOO_LARGE: u8 = 5;
+
 pub const REMAINING_DATA: u8 = 6;
+
 pub const FORBIDDEN_BYTE: u8 = 7;
+
 pub const EMPTY_NAL: u8 = 8;
+
 pub const NO_CODE: u8 = 9;
+
 pub const NO_ROOM: u8 = 10;
+
 pub const BAD_GEOMETRY: u8 = 11;
+
 pub const BAD_MAP_TYPE: u8 = 12;
+
 pub const BAD_RUN_LENGTH: u8 = 13;
+
 pub const INVALID_TOP_LEFT: u8 = 14;
+
 pub const INVALID_BOTTOM_RIGHT: u8 = 15;
+
 pub const BAD_CHANGE_RATE: u8 = 16;
+
 pub const BAD_PIC_SIZE: u8 = 17;
+
 pub const BAD_NUM_REF_IDX: u8 = 18;
 
 // The most elements of a lent buffer.

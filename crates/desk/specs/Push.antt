@@ -1,0 +1,111 @@
+-- A PUSH, WHATEVER THE READER OR WRITER IS: bytes are taken from the front, one after another, while all that the next byte releases fits.
+-- What one byte does is the crate's own (`Next`); what a push makes of it, and what pushes come to however a stream is cut, is said here once.
+-- Assumes nothing: these are definitions.
+use Prim.Native.Nat.{ℕ, zero, suc, _+_, _≤_}
+use mathlib.Core.Path.{_≡_}
+use mathlib.Core.Bool.{Bool, true, false, cond, _&&_}
+use mathlib.Core.List.{List, [], _∷_, _++_, map}
+use mathlib.Core.Option.{Option, none, some}
+use lib.ListN.{length, take, drop}
+use lib.Dec.{leb, eqb}
+use Rattle.desk.specs.Numbers.{done, forbiddenByte}
+use Rattle.desk.specs.Room.{written}
+
+-- what a byte does: the state after it, the bytes that it releases, and whether it ends a unit
+pub record Out (S : Type 0) : Type 0 where
+  pub after : S
+  pub bytes : List ℕ
+  pub mark : Bool
+
+-- what each byte does in each state; none where it is forbidden there
+abbrev pub Next : Type 0 → Type 0
+Next S = S → ℕ → Option (Out S)
+
+-- what a call answers: its number, the bytes taken, what it wrote of bytes and of marks, and the state after it
+pub record Answer (S : Type 0) : Type 0 where
+  pub number : ℕ
+  pub taken : ℕ
+  pub bytes : List ℕ
+  pub marks : List ℕ
+  pub after : S
+
+-- a number alone: nothing taken, nothing written, the state as it came
+abbrev pub answers : {S : Type 0} → ℕ → S → Answer S
+answers n s = record { number = n; taken = 0; bytes = []; marks = []; after = s }
+
+-- the mark of an end after the bytes l, or none: A MARK IS THE COUNT OF BYTES WRITTEN BEFORE THAT END
+abbrev pub marked : Bool → List ℕ → List ℕ
+marked c l = cond c (length l ∷ []) []
+
+-- a byte more is taken
+abbrev pub took : {S : Type 0} → Answer S → Out S → Answer S
+took a o = record { number = a .number; taken = a .taken + 1; bytes = a .bytes ++ o .bytes; marks = a .marks ++ marked (o .mark) (a .bytes); after = o .after }
+
+-- all that a byte releases fits rooms of w bytes and m marks
+abbrev pub fits : {S : Type 0} → ℕ → ℕ → Answer S → Out S → Bool
+fits w m a o = leb (length (a .bytes) + length (o .bytes)) w && leb (length (a .marks) + length (marked (o .mark) (a .bytes))) m
+
+-- the next byte is forbidden: all before it is taken and delivered, so its index is the count taken
+abbrev pub forbidden : {S : Type 0} → Answer S → Answer S
+forbidden a = record { number = forbiddenByte; taken = a .taken; bytes = a .bytes; marks = a .marks; after = a .after }
+
+-- with the next byte: 7 whatever room is left where it is forbidden; else it is taken if all that it releases fits
+abbrev pub onward : {S : Type 0} → ℕ → ℕ → Answer S → Option (Out S) → (Out S → Answer S) → Answer S
+onward w m a none go = forbidden a
+onward w m a (some o) go = cond (fits w m a o) (go o) a
+
+unfoldable pub run : {S : Type 0} → Next S → ℕ → ℕ → Answer S → List ℕ → Answer S
+run next w m a [] = a
+run next w m a (b ∷ bs) = onward w m a (next (a .after) b) (λ o. run next w m (took a o) bs)
+
+-- a push of a chunk from the state s into rooms of w bytes and m marks, where the entry checks gave `entry`
+unfoldable pub pushOf : {S : Type 0} → Next S → ℕ → S → List ℕ → ℕ → ℕ → Answer S
+pushOf next entry s chunk w m = cond (eqb entry done) (run next w m (answers done s) chunk) (answers entry s)
+
+-- A CALL'S OUTCOME IS THE ANSWER: what it returns, and all of both rooms after it
+pub record Gives {S : Type 0} (a : Answer S) (out marks out′ marks′ : List ℕ) (number taken wrote markedN : ℕ) (state : S) : Type 0 where
+  pub number-is : number ≡ a .number
+  pub taken-is : taken ≡ a .taken
+  pub wrote-is : wrote ≡ length (a .bytes)
+  pub marked-is : markedN ≡ length (a .marks)
+  pub state-is : state ≡ a .after
+  pub room : out′ ≡ written out (a .bytes)
+  pub mark-room : marks′ ≡ written marks (a .marks)
+
+-- ---- a stream cut into pushes
+
+-- marks of a call, as places in all the joined bytes: k were given before it
+abbrev pub shifted : ℕ → List ℕ → List ℕ
+shifted k l = map (λ (x : ℕ). k + x) l
+
+-- After some pushes of the stream from the state s₀, with no reset between: n bytes taken, the state, the joined bytes and the ends handed out.
+-- Each push is lent the next k bytes, for any k, and any rooms, and any outcome that its contract allows is gone on from, at the count it took:
+-- refused pushes too.
+pub data Pushes {S : Type 0} (next : Next S) (entry : S → ℕ → ℕ → ℕ → ℕ) (s₀ : S) (stream : List ℕ) : ℕ → S → List ℕ → List ℕ → Type 0 where
+  none-yet : Pushes next entry s₀ stream 0 s₀ [] []
+  one-more : {n : ℕ} {s : S} {given ends : List ℕ} → Pushes next entry s₀ stream n s given ends
+      → (k : ℕ) (out marks out′ marks′ : List ℕ) (number taken wrote markedN : ℕ) (s′ : S)
+      → Gives (pushOf next (entry s (length (take k (drop n stream))) (length out) (length marks)) s (take k (drop n stream)) (length out) (length marks)) out marks out′ marks′ number taken wrote markedN s′
+      → Pushes next entry s₀ stream (n + taken) s′ (given ++ take wrote out′) (ends ++ shifted (length given) (take markedN marks′))
+
+-- what is to be seen once some bytes are taken: the state, the joined bytes, and the ends as places in them
+pub record Seen (S : Type 0) : Type 0 where
+  pub state : S
+  pub bytes : List ℕ
+  pub ends : List ℕ
+
+abbrev pub seen : {S : Type 0} → S → List ℕ → List ℕ → Seen S
+seen s g e = record { state = s; bytes = g; ends = e }
+
+abbrev pub seenAfter : {S : Type 0} → Seen S → Out S → Seen S
+seenAfter v o = seen (o .after) (v .bytes ++ o .bytes) (v .ends ++ marked (o .mark) (v .bytes))
+
+-- THE STEP GIVES THE RULE, at every history h and byte b that is not forbidden there
+pub record Follows {S : Type 0} (next : Next S) (s₀ : S) (rule : List ℕ → Seen S) : Type 0 where
+  pub new : rule [] ≡ seen s₀ [] []
+  pub more : (h : List ℕ) (b : ℕ) (o : Out S) → next (rule h .state) b ≡ some o → rule (h ++ b ∷ []) ≡ seenAfter (rule h) o
+
+-- after some pushes: what was handed out is what the rule gives for the bytes taken
+pub record Cut {S : Type 0} (rule : List ℕ → Seen S) (stream : List ℕ) (n : ℕ) (s : S) (given ends : List ℕ) : Type 0 where
+  pub within : n ≤ length stream
+  pub rule-gives : rule (take n stream) ≡ seen s given ends
