@@ -32,10 +32,10 @@ module _ {S : Type 0} {next : Next S} {s₀ : S} {rule : List ℕ → Seen S} (f
   pub record Since (h₀ h : List ℕ) (a : Answer S) : Type 0 where
     pub seen-is : rule h ≡ seen (a .after) (rule h₀ .bytes ++ a .bytes) (rule h₀ .ends ++ shifted (length (rule h₀ .bytes)) (a .marks))
 
-  since-none : (h : List ℕ) (n : ℕ) (s : S) → rule h .state ≡ s → Since h h (answers n s)
+  pub since-none : (h : List ℕ) (n : ℕ) (s : S) → rule h .state ≡ s → Since h h (answers n s)
   since-none h n s e = record { seen-is = λ i. seen (e i) (sym (append-nil (rule h .bytes)) i) (sym (append-nil (rule h .ends)) i) }
 
-  since-more : (h₀ h : List ℕ) (a : Answer S) (b : ℕ) (o : Out S) → next (a .after) b ≡ some o → Since h₀ h a → Since h₀ (h ++ b ∷ []) (took a o)
+  pub since-more : (h₀ h : List ℕ) (a : Answer S) (b : ℕ) (o : Out S) → next (a .after) b ≡ some o → Since h₀ h a → Since h₀ (h ++ b ∷ []) (took a o)
   since-more h₀ h a b o q w =
       let e = w .seen-is in
       let g : rule h .bytes ≡ rule h₀ .bytes ++ a .bytes = ap (λ (v : Seen S). v .bytes) e in

@@ -5,3 +5,5 @@ pub mod Entering
 pub mod Pushing
 pub mod Room
 pub mod Search
+pub mod Taking
+pub mod Unique

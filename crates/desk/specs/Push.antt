@@ -1,12 +1,12 @@
 -- A PUSH, WHATEVER THE READER OR WRITER IS: bytes are taken from the front, one after another, while all that the next byte releases fits.
 -- What one byte does is the crate's own (`Next`); what a push makes of it, and what pushes come to however a stream is cut, is said here once.
 -- Assumes nothing: these are definitions.
-use Prim.Native.Nat.{ℕ, zero, suc, _+_, _≤_}
+use Prim.Native.Nat.{ℕ, zero, suc, _+_, _≤_, _<_}
 use mathlib.Core.Path.{_≡_}
 use mathlib.Core.Bool.{Bool, true, false, cond, _&&_}
 use mathlib.Core.List.{List, [], _∷_, _++_, map}
 use mathlib.Core.Option.{Option, none, some}
-use lib.ListN.{length, take, drop}
+use lib.ListN.{length, take, drop, getD}
 use lib.Dec.{leb, eqb}
 use Rattle.desk.specs.Numbers.{done, forbiddenByte}
 use Rattle.desk.specs.Room.{written}
@@ -109,3 +109,29 @@ pub record Follows {S : Type 0} (next : Next S) (s₀ : S) (rule : List ℕ → 
 pub record Cut {S : Type 0} (rule : List ℕ → Seen S) (stream : List ℕ) (n : ℕ) (s : S) (given ends : List ℕ) : Type 0 where
   pub within : n ≤ length stream
   pub rule-gives : rule (take n stream) ≡ seen s given ends
+
+-- ---- how much a push takes
+
+abbrev pub acceptsBy : {S : Type 0} → Option (Out S) → (Out S → Bool) → Bool
+acceptsBy none go = false
+acceptsBy (some o) go = go o
+
+-- no byte of the list is forbidden, from the state s on
+abbrev pub accepts : {S : Type 0} → Next S → S → List ℕ → Bool
+accepts next s [] = true
+accepts next s (b ∷ bs) = acceptsBy (next s b) (λ o. accepts next (o .after) bs)
+
+-- what the bytes c release after the bytes h fits rooms of w bytes and m marks
+pub record Fits {S : Type 0} (rule : List ℕ → Seen S) (h c : List ℕ) (w m : ℕ) : Type 0 where
+  pub bytes-fit : length (rule (h ++ c) .bytes) ≤ length (rule h .bytes) + w
+  pub ends-fit : length (rule (h ++ c) .ends) ≤ length (rule h .ends) + m
+
+-- a push that is not refused at entry takes the longest front of the chunk that holds no forbidden byte and all of whose releases fit;
+-- it answers 7 exactly if the byte behind that front is forbidden
+pub record Longest {S : Type 0} (next : Next S) (rule : List ℕ → Seen S) (h chunk : List ℕ) (w m : ℕ) (a : Answer S) : Type 0 where
+  pub few : a .taken ≤ length chunk
+  pub accepted : accepts next (rule h .state) (take (a .taken) chunk) ≡ true
+  pub fit : Fits rule h (take (a .taken) chunk) w m
+  pub longest : (n : ℕ) → n ≤ length chunk → accepts next (rule h .state) (take n chunk) ≡ true → Fits rule h (take n chunk) w m → n ≤ a .taken
+  pub number-7 : a .number ≡ forbiddenByte → (a .taken < length chunk) × (next (a .after) (getD chunk (a .taken) 0) ≡ none)
+  pub number-0 : (a .number ≡ forbiddenByte → ⊥) → (a .number ≡ done) × (a .taken < length chunk → next (a .after) (getD chunk (a .taken) 0) ≡ none → ⊥)

@@ -1,0 +1,206 @@
+-- A push takes the longest front that it may: up to a forbidden byte, or to the first byte whose releases do not fit.
+use Prim.Native.Nat.{ℕ, zero, suc, _+_, _-_, _≤_, _<_, zero-le}
+use native.Mathlib.Omega.{arith}
+use native.Mathlib.Nat.{add-zero, zero-add, le-refl, le-trans, le-of-eq, not-suc-le-zero}
+use lib.Dec.{leb, eqb}
+use mathlib.Core.Path.{_≡_, refl, ap, ap₂, sym, _∙_, subst, subst⁻¹}
+use mathlib.Core.Bool.{Bool, true, false, cond, _&&_, false≢true}
+use mathlib.Core.List.{List, [], _∷_, _++_, append-assoc, append-nil, map}
+use mathlib.Core.Option.{Option, none, some}
+use lib.ListN.{length, take, drop, getD, length-append, length-map}
+use lib.Seq.{append-snoc, take-length}
+use borrow.Author.Tests.{le-leb, leb-true, leb-false}
+use Rattle.desk.specs.Push.{Out, Next, Answer, answers, marked, took, fits, forbidden, run, pushOf, Gives, shifted, Seen, seen, seenAfter, Follows, acceptsBy, accepts, Fits, Longest}
+use Rattle.desk.proofs.Choice.{and-left, and-right}
+use Rattle.desk.proofs.Pushing.{run-ends, run-takes, run-stops, run-forbidden}
+use Rattle.desk.proofs.Cutting.{Since, since-none, since-more}
+
+module _ {S : Type 0} {next : Next S} {s₀ : S} {rule : List ℕ → Seen S} (f : Follows next s₀ rule) where
+  -- what is handed out only grows
+  longer : (h t : List ℕ) → accepts next (rule h .state) t ≡ true → (length (rule h .bytes) ≤ length (rule (h ++ t) .bytes)) × (length (rule h .ends) ≤ length (rule (h ++ t) .ends))
+  longer h [] e = let q = ap rule (sym (append-nil h)) in (le-of-eq (ap (λ (v : Seen S). length (v .bytes)) q), le-of-eq (ap (λ (v : Seen S). length (v .ends)) q))
+  longer h (b ∷ t) e = go (next (rule h .state) b) refl e (λ o q k. longer (h ++ b ∷ []) t k)
+    where
+      go : (r : Option (Out S)) → next (rule h .state) b ≡ r → acceptsBy r (λ o. accepts next (o .after) t) ≡ true
+          → ((o : Out S) → next (rule h .state) b ≡ some o → accepts next (rule (h ++ b ∷ []) .state) t ≡ true → (length (rule (h ++ b ∷ []) .bytes) ≤ length (rule ((h ++ b ∷ []) ++ t) .bytes)) × (length (rule (h ++ b ∷ []) .ends) ≤ length (rule ((h ++ b ∷ []) ++ t) .ends)))
+          → (length (rule h .bytes) ≤ length (rule (h ++ b ∷ t) .bytes)) × (length (rule h .ends) ≤ length (rule (h ++ b ∷ t) .ends))
+      go none q k ih = absurd (false≢true k)
+      go (some o) q k ih =
+          let m = f .more h b o q in
+          let i = ih o q (ap (λ (v : Seen S). accepts next (v .state) t) m ∙ k) in
+          let g : length (rule (h ++ b ∷ []) .bytes) ≡ length (rule h .bytes) + length (o .bytes) = ap (λ (v : Seen S). length (v .bytes)) m ∙ length-append (rule h .bytes) (o .bytes) in
+          let d : length (rule (h ++ b ∷ []) .ends) ≡ length (rule h .ends) + length (marked (o .mark) (rule h .bytes)) = ap (λ (v : Seen S). length (v .ends)) m ∙ length-append (rule h .ends) _ in
+          subst (λ (l : List ℕ). (length (rule h .bytes) ≤ length (rule l .bytes)) × (length (rule h .ends) ≤ length (rule l .ends))) (append-snoc h b t) (omega (arith, i .0, g), omega (arith, i .1, d))
+
+  -- what was handed out since h₀, by its lengths
+  sizes : (h₀ h : List ℕ) (a : Answer S) → Since f h₀ h a
+      → (length (rule h .bytes) ≡ length (rule h₀ .bytes) + length (a .bytes)) × (length (rule h .ends) ≡ length (rule h₀ .ends) + length (a .marks))
+  sizes h₀ h a q = (
+    ap (λ (v : Seen S). length (v .bytes)) (q .seen-is) ∙ length-append (rule h₀ .bytes) (a .bytes),
+    ap (λ (v : Seen S). length (v .ends)) (q .seen-is)
+        ∙ length-append (rule h₀ .ends) (shifted (length (rule h₀ .bytes)) (a .marks))
+        ∙ ap (λ (k : ℕ). length (rule h₀ .ends) + k) (length-map (a .marks) (λ (x : ℕ). length (rule h₀ .bytes) + x)),
+  )
+
+  -- no front of n bytes that may be taken, from the state s after the bytes h, is longer than c
+  abbrev AtMost : ℕ → ℕ → List ℕ → List ℕ → S → List ℕ → ℕ → ℕ → Type 0
+  AtMost w m h₀ h s bs c n =
+      n ≤ length bs → accepts next s (take n bs) ≡ true → length (rule (h ++ take n bs) .bytes) ≤ length (rule h₀ .bytes) + w → length (rule (h ++ take n bs) .ends) ≤ length (rule h₀ .ends) + m
+      → n ≤ c
+
+  -- a run, from the answer a after the bytes h
+  record Long (w m : ℕ) (h₀ h : List ℕ) (a : Answer S) (bs : List ℕ) (r : Answer S) : Type 0 where
+    count : ℕ
+    few : count ≤ length bs
+    taken : r .taken ≡ a .taken + count
+    accepted : accepts next (a .after) (take count bs) ≡ true
+    bytes-fit : length (r .bytes) ≤ w
+    marks-fit : length (r .marks) ≤ m
+    since : Since f h₀ (h ++ take count bs) r
+    longest : (n : ℕ) → AtMost w m h₀ h (a .after) bs count n
+    number-7 : r .number ≡ 7 → (count < length bs) × (next (r .after) (getD bs count 0) ≡ none)
+    number-0 : (r .number ≡ 7 → ⊥) → (r .number ≡ 0) × (count < length bs → next (r .after) (getD bs count 0) ≡ none → ⊥)
+
+  module _ (w m : ℕ) (h₀ : List ℕ) where
+    since-here : (h : List ℕ) (a : Answer S) → Since f h₀ h a → Since f h₀ (h ++ []) a
+    since-here h a q = record { seen-is = ap rule (append-nil h) ∙ q .seen-is }
+
+    long-end : (h : List ℕ) (a : Answer S) → a .number ≡ 0 → length (a .bytes) ≤ w → length (a .marks) ≤ m → Since f h₀ h a → Long w m h₀ h a [] a
+    long-end h a z hb hm q =
+        record {
+          count = 0;
+          few = le-refl 0;
+          taken = sym (add-zero (a .taken));
+          accepted = refl;
+          bytes-fit = hb;
+          marks-fit = hm;
+          since = since-here h a q;
+          longest = λ n k _ _ _. k;
+          number-7 = λ e. let x : ⊥ = omega arith in absurd x;
+          number-0 = λ e. (z, λ k _. absurd (not-suc-le-zero k));
+        }
+
+    long-forbidden : (h : List ℕ) (a : Answer S) (b : ℕ) (bs : List ℕ) → length (a .bytes) ≤ w → length (a .marks) ≤ m → Since f h₀ h a → next (a .after) b ≡ none → Long w m h₀ h a (b ∷ bs) (forbidden a)
+    long-forbidden h a b bs hb hm q e =
+        record {
+          count = 0;
+          few = zero-le;
+          taken = sym (add-zero (a .taken));
+          accepted = refl;
+          bytes-fit = hb;
+          marks-fit = hm;
+          since = record { seen-is = ap rule (append-nil h) ∙ q .seen-is };
+          longest = λ n. elim n as (AtMost w m h₀ h (a .after) (b ∷ bs) 0)
+              [ zero ↦ λ _ _ _ _. zero-le | suc n ↦ λ _ k _ _. absurd (false≢true (ap (λ (r : Option (Out S)). acceptsBy r (λ o. accepts next (o .after) (take n bs))) (sym e) ∙ k)) ];
+          number-7 = λ _. (omega arith, e);
+          number-0 = λ k. absurd (k refl);
+        }
+
+    long-full : (h : List ℕ) (a : Answer S) (b : ℕ) (bs : List ℕ) (o : Out S) → a .number ≡ 0 → length (a .bytes) ≤ w → length (a .marks) ≤ m → Since f h₀ h a → next (a .after) b ≡ some o → fits w m a o ≡ false → Long w m h₀ h a (b ∷ bs) a
+    long-full h a b bs o z hb hm q e d =
+        record {
+          count = 0;
+          few = zero-le;
+          taken = sym (add-zero (a .taken));
+          accepted = refl;
+          bytes-fit = hb;
+          marks-fit = hm;
+          since = since-here h a q;
+          longest = λ n. elim n as (AtMost w m h₀ h (a .after) (b ∷ bs) 0)
+              [ zero ↦ λ _ _ _ _. zero-le | suc n ↦ λ _ k x y. absurd (over n k x y) ];
+          number-7 = λ k. let x : ⊥ = omega arith in absurd x;
+          number-0 = λ _. (z, λ _ k. absurd (let u : _≡_ {A = ℕ} 0 1 = cc in omega arith));
+        }
+      where
+        over : (n : ℕ) → accepts next (a .after) (b ∷ take n bs) ≡ true → length (rule (h ++ b ∷ take n bs) .bytes) ≤ length (rule h₀ .bytes) + w → length (rule (h ++ b ∷ take n bs) .ends) ≤ length (rule h₀ .ends) + m → ⊥
+        over n k x y =
+            let s′ = since-more f h₀ h a b o e q in
+            let z′ = sizes h₀ (h ++ b ∷ []) (took a o) s′ in
+            let st : rule (h ++ b ∷ []) .state ≡ o .after = ap (λ (v : Seen S). v .state) (s′ .seen-is) in
+            let acc : accepts next (rule (h ++ b ∷ []) .state) (take n bs) ≡ true = ap (λ (s : S). accepts next s (take n bs)) st ∙ ap (λ (r : Option (Out S)). acceptsBy r (λ o. accepts next (o .after) (take n bs))) (sym e) ∙ k in
+            let l = longer (h ++ b ∷ []) (take n bs) acc in
+            let j : (h ++ b ∷ []) ++ take n bs ≡ h ++ b ∷ take n bs = append-snoc h b (take n bs) in
+            let x′ : length (rule ((h ++ b ∷ []) ++ take n bs) .bytes) ≤ length (rule h₀ .bytes) + w = subst⁻¹ (λ (u : List ℕ). length (rule u .bytes) ≤ length (rule h₀ .bytes) + w) j x in
+            let y′ : length (rule ((h ++ b ∷ []) ++ take n bs) .ends) ≤ length (rule h₀ .ends) + m = subst⁻¹ (λ (u : List ℕ). length (rule u .ends) ≤ length (rule h₀ .ends) + m) j y in
+            let zb : length (rule (h ++ b ∷ []) .bytes) ≡ length (rule h₀ .bytes) + (length (a .bytes) + length (o .bytes)) = z′ .0 ∙ ap (λ (u : ℕ). length (rule h₀ .bytes) + u) (length-append (a .bytes) (o .bytes)) in
+            let zm : length (rule (h ++ b ∷ []) .ends) ≡ length (rule h₀ .ends) + (length (a .marks) + length (marked (o .mark) (a .bytes))) = z′ .1 ∙ ap (λ (u : ℕ). length (rule h₀ .ends) + u) (length-append (a .marks) (marked (o .mark) (a .bytes))) in
+            false≢true (sym d ∙ ap₂ _&&_ (le-leb (length (a .bytes) + length (o .bytes)) w (omega (arith, l .0, zb))) (le-leb (length (a .marks) + length (marked (o .mark) (a .bytes))) m (omega (arith, l .1, zm))))
+
+    long-takes : (h : List ℕ) (a : Answer S) (b : ℕ) (bs : List ℕ) (o : Out S) (r : Answer S) → next (a .after) b ≡ some o → Long w m h₀ (h ++ b ∷ []) (took a o) bs r → Long w m h₀ h a (b ∷ bs) r
+    long-takes h a b bs o r e l =
+        record {
+          count = suc (l .count);
+          few = omega (arith, l .few);
+          taken = l .taken ∙ omega arith;
+          accepted = ap (λ (x : Option (Out S)). acceptsBy x (λ o. accepts next (o .after) (take (l .count) bs))) e ∙ l .accepted;
+          bytes-fit = l .bytes-fit;
+          marks-fit = l .marks-fit;
+          since = subst (λ (u : List ℕ). Since f h₀ u r) (append-snoc h b (take (l .count) bs)) (l .since);
+          longest = λ n. elim n as (AtMost w m h₀ h (a .after) (b ∷ bs) (suc (l .count)))
+              [ zero ↦ λ _ _ _ _. zero-le | suc n ↦ λ k acc x y. more n k acc x y ];
+          number-7 = λ z. let p = l .number-7 z in (omega (arith, p .0), p .1);
+          number-0 = λ z. let p = l .number-0 z in (p .0, λ k. p .1 (omega arith));
+        }
+      where
+        more : (n : ℕ) → AtMost w m h₀ h (a .after) (b ∷ bs) (suc (l .count)) (suc n)
+        more n k acc x y =
+            let j : (h ++ b ∷ []) ++ take n bs ≡ h ++ b ∷ take n bs = append-snoc h b (take n bs) in
+            let i = l .longest n (omega arith) (ap (λ (u : Option (Out S)). acceptsBy u (λ o. accepts next (o .after) (take n bs))) (sym e) ∙ acc)
+            (subst⁻¹ (λ (u : List ℕ). length (rule u .bytes) ≤ length (rule h₀ .bytes) + w) j x)
+            (subst⁻¹ (λ (u : List ℕ). length (rule u .ends) ≤ length (rule h₀ .ends) + m) j y) in
+            omega arith
+
+    long : (h : List ℕ) (a : Answer S) (bs : List ℕ) → a .number ≡ 0 → length (a .bytes) ≤ w → length (a .marks) ≤ m → Since f h₀ h a → Long w m h₀ h a bs (run next w m a bs)
+    long h a [] z hb hm q = subst⁻¹ (Long w m h₀ h a []) (run-ends next w m a) (long-end h a z hb hm q)
+    long h a (b ∷ bs) z hb hm q = go (next (a .after) b) refl (λ o e x y. long (h ++ b ∷ []) (took a o) bs z x y (since-more f h₀ h a b o e q))
+      where
+        go : (r : Option (Out S)) → next (a .after) b ≡ r
+            → ((o : Out S) → next (a .after) b ≡ some o → length (a .bytes ++ o .bytes) ≤ w → length (a .marks ++ marked (o .mark) (a .bytes)) ≤ m → Long w m h₀ (h ++ b ∷ []) (took a o) bs (run next w m (took a o) bs))
+            → Long w m h₀ h a (b ∷ bs) (run next w m a (b ∷ bs))
+        go none e ih = subst⁻¹ (Long w m h₀ h a (b ∷ bs)) (run-forbidden next w m a b bs e) (long-forbidden h a b bs hb hm q e)
+        go (some o) e ih = fit (fits w m a o) refl
+          where
+            fit : (c : Bool) → fits w m a o ≡ c → Long w m h₀ h a (b ∷ bs) (run next w m a (b ∷ bs))
+            fit false d = subst⁻¹ (Long w m h₀ h a (b ∷ bs)) (run-stops next w m a b bs o e d) (long-full h a b bs o z hb hm q e d)
+            fit true d =
+                let x = leb-true (length (a .bytes) + length (o .bytes)) w (and-left (leb (length (a .bytes) + length (o .bytes)) w) (leb (length (a .marks) + length (marked (o .mark) (a .bytes))) m) d) in
+                let y = leb-true (length (a .marks) + length (marked (o .mark) (a .bytes))) m (and-right (leb (length (a .bytes) + length (o .bytes)) w) (leb (length (a .marks) + length (marked (o .mark) (a .bytes))) m) d) in
+                subst⁻¹ (Long w m h₀ h a (b ∷ bs)) (run-takes next w m a b bs o e d)
+                (long-takes h a b bs o (run next w m (took a o) bs) e (ih o e (subst⁻¹ (λ (n : ℕ). n ≤ w) (length-append (a .bytes) (o .bytes)) x) (subst⁻¹ (λ (n : ℕ). n ≤ m) (length-append (a .marks) (marked (o .mark) (a .bytes))) y)))
+
+  -- A PUSH TAKES THE LONGEST FRONT THAT IT MAY
+  pub push-longest : (h chunk : List ℕ) (w m : ℕ) → Longest next rule h chunk w m (pushOf next 0 (rule h .state) chunk w m)
+  unfolding pushOf
+  push-longest h chunk w m =
+      let a = run next w m (answers 0 (rule h .state)) chunk in
+      let l = long w m h h (answers 0 (rule h .state)) chunk refl zero-le zero-le (since-none f h 0 (rule h .state) refl) in
+      let e : a .taken ≡ l .count = omega (arith, l .taken) in
+      let z = sizes h (h ++ take (l .count) chunk) a (l .since) in
+      rw e
+      (record {
+        few = l .few;
+        accepted = l .accepted;
+        fit = record { bytes-fit = omega (arith, z .0, l .bytes-fit); ends-fit = omega (arith, z .1, l .marks-fit) };
+        longest = λ n k acc x. l .longest n k acc (x .bytes-fit) (x .ends-fit);
+        number-7 = l .number-7;
+        number-0 = l .number-0;
+      })
+
+  -- one push takes all, wherever no byte is forbidden and the rooms hold what the rule gives
+  pub takes-all : (h chunk : List ℕ) (w m : ℕ) → accepts next (rule h .state) chunk ≡ true → Fits rule h chunk w m
+      → (pushOf next 0 (rule h .state) chunk w m .taken ≡ length chunk) × (pushOf next 0 (rule h .state) chunk w m .number ≡ 0)
+  takes-all h chunk w m acc fit =
+      let l = push-longest h chunk w m in
+      let whole = sym (take-length chunk) in
+      let n = l .longest (length chunk) (le-refl _) (subst (λ (c : List ℕ). accepts next (rule h .state) c ≡ true) whole acc) (subst (λ (c : List ℕ). Fits rule h c w m) whole fit) in
+      let all : pushOf next 0 (rule h .state) chunk w m .taken ≡ length chunk = omega (arith, n, l .few) in
+      (all, l .number-0 (λ z. let k = l .number-7 z in let x : ⊥ = omega (arith, k .0) in x) .0)
+
+  -- a push takes at least one byte, where all that it releases fits
+  pub takes-one : (h : List ℕ) (b : ℕ) (bs : List ℕ) (w m : ℕ) (o : Out S) → next (rule h .state) b ≡ some o → length (o .bytes) ≤ w → length (marked (o .mark) (rule h .bytes)) ≤ m
+      → 1 ≤ pushOf next 0 (rule h .state) (b ∷ bs) w m .taken
+  takes-one h b bs w m o e x y =
+      let q = f .more h b o e in
+      let g : length (rule (h ++ b ∷ []) .bytes) ≡ length (rule h .bytes) + length (o .bytes) = ap (λ (v : Seen S). length (v .bytes)) q ∙ length-append (rule h .bytes) (o .bytes) in
+      let d : length (rule (h ++ b ∷ []) .ends) ≡ length (rule h .ends) + length (marked (o .mark) (rule h .bytes)) = ap (λ (v : Seen S). length (v .ends)) q ∙ length-append (rule h .ends) _ in
+      push-longest h (b ∷ bs) w m .longest 1 (omega arith) (ap (λ (r : Option (Out S)). acceptsBy r (λ o. true)) e) (record { bytes-fit = omega (arith, g); ends-fit = omega (arith, d) })
