@@ -91,6 +91,10 @@ module _ {S : Type 0} {next : Next S} {s₀ : S} {rule : List ℕ → Seen S} (f
           let e : run next w m (answers 0 s) chunk .taken ≡ r .count = omega (arith, r .taken) in
           record { few = omega (arith, r .few); since = subst⁻¹ (λ (n : ℕ). Since h (h ++ take n chunk) (run next w m (answers 0 s) chunk)) e (r .since) }
 
+  -- what a push handed out, from the state of h
+  pub pushed-since : (h chunk : List ℕ) (s : S) (entry w m : ℕ) → rule h .state ≡ s → Since h (h ++ take (pushOf next entry s chunk w m .taken) chunk) (pushOf next entry s chunk w m)
+  pushed-since h chunk s entry w m q = pushing h chunk s entry w m q .since
+
   cut-more : {stream : List ℕ} {n : ℕ} {s : S} {given ends : List ℕ} → Cut rule stream n s given ends
       → (entry k : ℕ) (out marks out′ marks′ : List ℕ) (number taken wrote markedN : ℕ) (s′ : S)
       → Gives (pushOf next entry s (take k (drop n stream)) (length out) (length marks)) out marks out′ marks′ number taken wrote markedN s′

@@ -1,7 +1,9 @@
 -- Laws that other crates cite.
+pub mod Bytes
 pub mod Choice
 pub mod Cutting
 pub mod Entering
+pub mod Lists
 pub mod Pushing
 pub mod Room
 pub mod Search

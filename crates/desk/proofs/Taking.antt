@@ -10,10 +10,10 @@ use mathlib.Core.Option.{Option, none, some}
 use lib.ListN.{length, take, drop, getD, length-append, length-map}
 use lib.Seq.{append-snoc, take-length}
 use borrow.Author.Tests.{le-leb, leb-true, leb-false}
-use Rattle.desk.specs.Push.{Out, Next, Answer, answers, marked, took, fits, forbidden, run, pushOf, Gives, shifted, Seen, seen, seenAfter, Follows, acceptsBy, accepts, Fits, Longest}
+use Rattle.desk.specs.Push.{Out, Next, Answer, answers, marked, took, fits, forbidden, run, pushOf, Gives, shifted, Seen, seen, seenAfter, Follows, acceptsBy, accepts, Fits, Longest, WholePush}
 use Rattle.desk.proofs.Choice.{and-left, and-right}
 use Rattle.desk.proofs.Pushing.{run-ends, run-takes, run-stops, run-forbidden}
-use Rattle.desk.proofs.Cutting.{Since, since-none, since-more}
+use Rattle.desk.proofs.Cutting.{Since, since-none, since-more, pushed-since}
 
 module _ {S : Type 0} {next : Next S} {s₀ : S} {rule : List ℕ → Seen S} (f : Follows next s₀ rule) where
   -- what is handed out only grows
@@ -204,3 +204,28 @@ module _ {S : Type 0} {next : Next S} {s₀ : S} {rule : List ℕ → Seen S} (f
       let g : length (rule (h ++ b ∷ []) .bytes) ≡ length (rule h .bytes) + length (o .bytes) = ap (λ (v : Seen S). length (v .bytes)) q ∙ length-append (rule h .bytes) (o .bytes) in
       let d : length (rule (h ++ b ∷ []) .ends) ≡ length (rule h .ends) + length (marked (o .mark) (rule h .bytes)) = ap (λ (v : Seen S). length (v .ends)) q ∙ length-append (rule h .ends) _ in
       push-longest h (b ∷ bs) w m .longest 1 (omega arith) (ap (λ (r : Option (Out S)). acceptsBy r (λ o. true)) e) (record { bytes-fit = omega (arith, g); ends-fit = omega (arith, d) })
+
+  shifted-none : (l : List ℕ) → shifted 0 l ≡ l
+  shifted-none [] = refl
+  shifted-none (x ∷ l) = ap₂ {C = List ℕ} (λ y r. y ∷ r) (zero-add x) (shifted-none l)
+
+  -- ONE PUSH FROM THE START takes a whole list and gives what the rule gives for it, wherever no byte is forbidden and the rooms hold that
+  pub whole-push : (chunk : List ℕ) (w m : ℕ) → accepts next s₀ chunk ≡ true → length (rule chunk .bytes) ≤ w → length (rule chunk .ends) ≤ m → WholePush rule chunk (pushOf next 0 s₀ chunk w m)
+  whole-push chunk w m acc fb fe =
+      let new = f .new in
+      let start : rule [] .state ≡ s₀ = ap (λ (v : Seen S). v .state) new in
+      let no-bytes : rule [] .bytes ≡ [] = ap (λ (v : Seen S). v .bytes) new in
+      let no-ends : rule [] .ends ≡ [] = ap (λ (v : Seen S). v .ends) new in
+      let fit : Fits rule [] chunk w m = record { bytes-fit = omega (arith, fb); ends-fit = omega (arith, fe) } in
+      let all = rw start at (takes-all [] chunk w m (rw start acc) fit) in
+      let a = pushOf next 0 s₀ chunk w m in
+      let since = pushed-since f [] chunk s₀ 0 w m start in
+      let e : rule chunk ≡ seen (a .after) (rule [] .bytes ++ a .bytes) (rule [] .ends ++ shifted (length (rule [] .bytes)) (a .marks)) =
+      ap rule (sym (take-length chunk) ∙ ap (λ (n : ℕ). take n chunk) (sym (all .0))) ∙ since .seen-is in
+      record {
+        number = all .1;
+        taken = all .0;
+        bytes = sym (ap (λ (v : Seen S). v .bytes) e ∙ ap (λ (l : List ℕ). l ++ a .bytes) no-bytes);
+        marks = sym (ap (λ (v : Seen S). v .ends) e ∙ ap₂ (λ (l k : List ℕ). l ++ shifted (length k) (a .marks)) no-ends no-bytes ∙ shifted-none (a .marks));
+        state = sym (ap (λ (v : Seen S). v .state) e);
+      }

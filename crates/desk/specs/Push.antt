@@ -135,3 +135,11 @@ pub record Longest {S : Type 0} (next : Next S) (rule : List ℕ → Seen S) (h 
   pub longest : (n : ℕ) → n ≤ length chunk → accepts next (rule h .state) (take n chunk) ≡ true → Fits rule h (take n chunk) w m → n ≤ a .taken
   pub number-7 : a .number ≡ forbiddenByte → (a .taken < length chunk) × (next (a .after) (getD chunk (a .taken) 0) ≡ none)
   pub number-0 : (a .number ≡ forbiddenByte → ⊥) → (a .number ≡ done) × (a .taken < length chunk → next (a .after) (getD chunk (a .taken) 0) ≡ none → ⊥)
+
+-- one push of a whole list: all of it is taken, and all is what the rule gives for it
+pub record WholePush {S : Type 0} (rule : List ℕ → Seen S) (chunk : List ℕ) (a : Answer S) : Type 0 where
+  pub number : a .number ≡ done
+  pub taken : a .taken ≡ length chunk
+  pub bytes : a .bytes ≡ rule chunk .bytes
+  pub marks : a .marks ≡ rule chunk .ends
+  pub state : a .after ≡ rule chunk .state

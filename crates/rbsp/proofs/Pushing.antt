@@ -1,0 +1,85 @@
+-- The two pushes' loops, by what the code's steps say. The loop itself is desk's `Going`; no marks are lent.
+use Prim.Native.Nat.{ℕ, zero, suc, _+_, _-_, _≤_, _<_}
+use native.Mathlib.Omega.{arith}
+use mathlib.Core.Path.{_≡_, refl, ap, sym, _∙_, subst}
+use mathlib.Core.Bool.{Bool, true, false}
+use mathlib.Core.List.{List, [], _∷_}
+use mathlib.Core.Option.{Option, none, some}
+use lib.ListN.{length, take, drop, getD, replicate, length-replicate}
+use borrow.Rule.Slice.PartMut.{midOf, putMid}
+use Rattle.desk.specs.Numbers.{entryOf}
+use Rattle.desk.specs.Push.{Out, Next, pushOf, Gives}
+use Rattle.desk.specs.Room.{written}
+use Rattle.desk.proofs.Pushing.{Going, going-more, stop-forbidden, stop-full, gives-refused, wrote, wrote-none, sofar}
+use Rattle.rbsp.specs.Step.{takes, next, stepped, zeros, released, Does, escapes}
+use Rattle.rbsp.specs.declared.reader.ParseState.{ParseState}
+use Rattle.rbsp.specs.declared.reader.ParseState.the-variants.{Start, Skip, PostThree}
+use Rattle.rbsp.specs.declared.reader.Stepped.{Stepped}
+use Rattle.rbsp.specs.declared.reader.Stepped.the-variants.{Take, Forbidden}
+use Rattle.rbsp.specs.declared.writer.ByteWriter.{ByteWriter}
+use Rattle.rbsp.specs.declared.writer.Stuffed.{Stuffed}
+
+-- a refusal of the entry checks, by the number that the code found
+pub refused : {S : Type 0} (nx : Next S) (n entry : ℕ) (s : S) (chunk out : List ℕ) → n ≡ entry → (n ≡ 0 → ⊥) → Gives (pushOf nx entry s chunk (length out) 0) out [] out [] n 0 0 0 s
+refused nx n entry s chunk out e h = subst (λ (k : ℕ). Gives (pushOf nx entry s chunk (length out) 0) out [] out [] k 0 0 0 s) (sym e) (gives-refused nx entry s chunk out [] (λ z. h (e ∙ z)))
+
+pub entry-is : (n : ℕ) (bad bad′ : Bool) (ns : List ℕ) → n ≡ entryOf ns bad → bad ≡ bad′ → n ≡ entryOf ns bad′
+entry-is n bad bad′ ns p q = p ∙ ap (entryOf ns) q
+
+-- one byte of a push that releases the bytes bs of the code's step, without marks
+module _ {S : Type 0} {nx : Next S} {chunk out₀ : List ℕ} {s₀ : S} {out : List ℕ} {s : S} {t w : ℕ} (g : Going nx chunk out₀ [] s₀ out [] s t w 0) {b : ℕ} (h : t < length chunk) (e : b ≡ getD chunk t 0) (after : S) (bs : List ℕ)
+    (q : nx s b ≡ some (record { after = after; bytes = bs; mark = false }))
+    (n : ℕ)
+    (en : length bs ≡ n)
+  where
+    pub more : (part : List ℕ) → n ≤ length out - w → part ≡ written (midOf w (length out - w) out) bs → Going nx chunk out₀ [] s₀ (putMid w (length out - w) out part) [] after (t + 1) (w + n) 0
+    more part f ep = going-more g h e (record { after = after; bytes = bs; mark = false }) q n 0 en refl (wrote w n bs out part (g .out-few) f en ep) wrote-none
+
+    pub full : length out - w < n → Rattle.desk.specs.Push.run nx (length out₀) 0 (Rattle.desk.specs.Push.answers 0 s₀) chunk ≡ sofar out [] s t w 0
+    full f = stop-full g h e (record { after = after; bytes = bs; mark = false }) q n 0 en refl f
+
+-- the reader's step took the byte, or forbids it
+pub took-is : (r : Stepped) (s : ParseState) (b : ℕ) (after : ParseState) (n : ℕ) → stepped r b ≡ next s b → r ≡ Take after n → next s b ≡ some (takes after (replicate n b))
+took-is r s b after n e q = sym e ∙ ap (λ (x : Stepped). stepped x b) q
+
+pub forbids-is : (r : Stepped) (s : ParseState) (b : ℕ) → stepped r b ≡ next s b → r ≡ Forbidden → next s b ≡ none
+forbids-is r s b e q = sym e ∙ ap (λ (x : Stepped). stepped x b) q
+
+-- its byte goes out or not
+pub next-one : (s : ParseState) (b n : ℕ) (s′ : ParseState) → next s b ≡ some (takes s′ (replicate n b)) → n ≤ 1
+next-one s b n s′ e = subst (λ (k : ℕ). k ≤ 1) (length-replicate n b) (short s b (takes s′ (replicate n b)) e)
+  where
+    absurd-none : {o : Out ParseState} → _≡_ {A = Option (Out ParseState)} none (some o) → ⊥
+    absurd-none {o} e = let z : _≡_ {A = ℕ} 0 1 = cc in omega arith
+
+    is : {o o′ : Out ParseState} → some o ≡ some o′ → length (o .bytes) ≤ 1 → length (o′ .bytes) ≤ 1
+    is {o} {o′} e h = let q : o ≡ o′ = cc in subst (λ (x : Out ParseState). length (x .bytes) ≤ 1) q h
+
+    scanned : (z b : ℕ) (o : Out ParseState) → next (Start z) b ≡ some o → length (o .bytes) ≤ 1
+    scanned zero b o e = is e (omega arith)
+    scanned (suc zero) b o e = is e (omega arith)
+    scanned (suc (suc z)) zero o e = absurd (absurd-none e)
+    scanned (suc (suc z)) (suc zero) o e = absurd (absurd-none e)
+    scanned (suc (suc z)) (suc (suc zero)) o e = absurd (absurd-none e)
+    scanned (suc (suc z)) (suc (suc (suc zero))) o e = is e (omega arith)
+    scanned (suc (suc z)) (suc (suc (suc (suc b)))) o e = is e (omega arith)
+
+    three : (b : ℕ) (o : Out ParseState) → next PostThree b ≡ some o → length (o .bytes) ≤ 1
+    three zero o e = is e (omega arith)
+    three (suc zero) o e = is e (omega arith)
+    three (suc (suc zero)) o e = is e (omega arith)
+    three (suc (suc (suc zero))) o e = is e (omega arith)
+    three (suc (suc (suc (suc b)))) o e = absurd (absurd-none e)
+
+    short : (s : ParseState) (b : ℕ) (o : Out ParseState) → next s b ≡ some o → length (o .bytes) ≤ 1
+    short (Start z) b o e = scanned z b o e
+    short (Skip zero) b o e = scanned 0 b o e
+    short (Skip (suc k)) b o e = is e (omega arith)
+    short PostThree b o e = three b o e
+
+-- the writer's byte goes out alone or behind a 03
+pub released-length : (n b : ℕ) → n ≤ 2 → length (released n b) ≡ n
+released-length zero b h = refl
+released-length (suc zero) b h = refl
+released-length (suc (suc zero)) b h = refl
+released-length (suc (suc (suc n))) b h = let z : ⊥ = omega arith in absurd z

@@ -1,0 +1,20 @@
+use mathlib.Core.Path.{sym}
+use native.Mathlib.Omega.{arith}
+use lib.Seq.{take-all, length-take-le}
+use borrow.Author.Needs.{needs}
+use Rattle.rbsp.proofs.nal.front.Statement.{statement}
+use Rattle.rbsp.proofs.nal.front.Tie as tie
+use Rattle.rbsp.proofs.nal.front.Reads as reads
+use Rattle.rbsp.proofs.nal.front.Lts as lts
+
+returns : tie.Need-returns
+returns c = sym (take-all (c .before .args .n) (c .before .args .room .now) (omega arith))
+
+slice-aggregate-result : tie.Need-slice-aggregate-result
+slice-aggregate-result c = sym (length-take-le _ _ (c .before .if1 .left))
+
+returns-2 : tie.Need-returns-2
+returns-2 c = search needs
+
+pub front-spec : {M : Type 1} → statement M
+front-spec = tie.close (tie.spec returns slice-aggregate-result returns-2)

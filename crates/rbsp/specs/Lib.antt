@@ -1,0 +1,4 @@
+-- What the contracts and laws of `rbsp` cite.
+pub mod Rule
+pub mod Step
+pub mod Answer
