@@ -1,0 +1,26 @@
+//! The original and the port beside each other.
+//!
+//!     compare run [ROUNDS [SEED]]    ROUNDS random inputs of each kind, beside the exhaustive ones
+mod escaping;
+mod make;
+mod tally;
+
+fn main() {
+    let words: Vec<String> = std::env::args().skip(1).collect();
+    let number = |i: usize, default: u64| words.get(i).map_or(default, |w| w.parse().expect("a number"));
+    match words.first().map(String::as_str) {
+        Some("run") => run(number(1, 20_000) as usize, number(2, 1)),
+        _ => {
+            eprintln!("usage: compare run [ROUNDS [SEED]]");
+            std::process::exit(2);
+        }
+    }
+}
+
+fn run(rounds: usize, seed: u64) {
+    let mut tally = tally::Tally::default();
+    let mut random = make::Random::new(seed);
+    escaping::run(&mut tally, &mut random, rounds);
+    tally.print();
+    println!("no difference");
+}
