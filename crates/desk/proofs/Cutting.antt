@@ -27,6 +27,12 @@ marked-by c l k e = ap (λ (n : ℕ). cond c (n ∷ []) []) e
 written-front : (n : ℕ) (room bs room′ : List ℕ) → n ≡ length bs → room′ ≡ written room bs → take n room′ ≡ bs
 written-front n room bs room′ e q = ap₂ take e q ∙ front room bs
 
+-- what was taken of a push's chunk is the stream's next bytes
+pub taken-front : (n k taken : ℕ) (stream : List ℕ) → taken ≤ length (take k (drop n stream)) → take n stream ++ take taken (take k (drop n stream)) ≡ take (n + taken) stream
+taken-front n k taken stream h =
+    let lens : length (take k (drop n stream)) ≡ min k (length stream - n) = length-take k (drop n stream) ∙ ap (min k) (length-drop n stream) in
+    ap (λ (l : List ℕ). take n stream ++ l) (take-take taken k (drop n stream) (omega arith)) ∙ sym (take-add n taken stream)
+
 module _ {S : Type 0} {next : Next S} {s₀ : S} {rule : List ℕ → Seen S} (f : Follows next s₀ rule) where
   -- what a call handed out is what the rule gives for the bytes h, beyond what it gives for h₀
   pub record Since (h₀ h : List ℕ) (a : Answer S) : Type 0 where
@@ -91,7 +97,10 @@ module _ {S : Type 0} {next : Next S} {s₀ : S} {rule : List ℕ → Seen S} (f
           let e : run next w m (answers 0 s) chunk .taken ≡ r .count = omega (arith, r .taken) in
           record { few = omega (arith, r .few); since = subst⁻¹ (λ (n : ℕ). Since h (h ++ take n chunk) (run next w m (answers 0 s) chunk)) e (r .since) }
 
-  -- what a push handed out, from the state of h
+  -- what a push took and handed out, from the state of h
+  pub pushed-few : (h chunk : List ℕ) (s : S) (entry w m : ℕ) → rule h .state ≡ s → pushOf next entry s chunk w m .taken ≤ length chunk
+  pushed-few h chunk s entry w m q = pushing h chunk s entry w m q .few
+
   pub pushed-since : (h chunk : List ℕ) (s : S) (entry w m : ℕ) → rule h .state ≡ s → Since h (h ++ take (pushOf next entry s chunk w m .taken) chunk) (pushOf next entry s chunk w m)
   pushed-since h chunk s entry w m q = pushing h chunk s entry w m q .since
 
@@ -107,8 +116,7 @@ module _ {S : Type 0} {next : Next S} {s₀ : S} {rule : List ℕ → Seen S} (f
       let p = pushing h chunk s entry (length out) (length marks) (ap (λ (v : Seen S). v .state) e) in
       let few : taken ≤ length chunk = omega (arith, p .few, o .taken-is) in
       let lens : length chunk ≡ min k (length stream - n) = length-take k (drop n stream) ∙ ap (min k) (length-drop n stream) in
-      let all : h ++ take (a .taken) chunk ≡ take (n + taken) stream =
-      ap (λ (x : ℕ). h ++ take x chunk) (sym (o .taken-is)) ∙ ap (λ (l : List ℕ). h ++ l) (take-take taken k (drop n stream) (omega arith)) ∙ sym (take-add n taken stream) in
+      let all : h ++ take (a .taken) chunk ≡ take (n + taken) stream = ap (λ (x : ℕ). h ++ take x chunk) (sym (o .taken-is)) ∙ taken-front n k taken stream few in
       let bytes : rule h .bytes ++ a .bytes ≡ given ++ take wrote out′ = ap₂ _++_ (ap (λ (v : Seen S). v .bytes) e) (sym (written-front wrote out (a .bytes) out′ (o .wrote-is) (o .room))) in
       let marksE : rule h .ends ++ shifted (length (rule h .bytes)) (a .marks) ≡ ends ++ shifted (length given) (take markedN marks′) =
       ap₂ _++_ (ap (λ (v : Seen S). v .ends) e) (ap₂ shifted (ap (λ (v : Seen S). length (v .bytes)) e) (sym (written-front markedN marks (a .marks) marks′ (o .marked-is) (o .mark-room)))) in

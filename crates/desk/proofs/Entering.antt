@@ -47,3 +47,13 @@ module _ (ns : List ℕ) (bad : Bool) where
       go true y p q f = absurd (let z : ⊥ = omega arith in z)
       go false true p q f = absurd (let z : ⊥ = omega arith in z)
       go false false p q f = (over-few ns p, q)
+
+  -- they answer 0, 1 or 2
+  pub entry-few : entryOf ns bad ≤ 2
+  unfolding entryOf
+  entry-few = go (anyOver ns) bad
+    where
+      go : (x y : Bool) → cond x 1 (cond y 2 0) ≤ 2
+      go true y = omega arith
+      go false true = omega arith
+      go false false = omega arith

@@ -1,4 +1,5 @@
 -- Laws that other crates cite.
+pub mod Accepting
 pub mod Bytes
 pub mod Choice
 pub mod Cutting

@@ -2,7 +2,7 @@
 use Prim.Native.Nat.{ℕ, zero, suc, _+_, _-_, _≤_, _<_, zero-le}
 use native.Mathlib.Omega.{arith}
 use native.Mathlib.Nat.{add-zero, zero-add, le-refl, le-trans, le-of-eq, not-suc-le-zero}
-use lib.Dec.{leb, eqb}
+use lib.Dec.{leb, eqb, eqb·suc-zero}
 use mathlib.Core.Path.{_≡_, refl, ap, ap₂, sym, _∙_, subst, subst⁻¹}
 use mathlib.Core.Bool.{Bool, true, false, cond, _&&_, false≢true}
 use mathlib.Core.List.{List, [], _∷_, _++_, append-assoc, append-nil, map}
@@ -14,6 +14,34 @@ use Rattle.desk.specs.Push.{Out, Next, Answer, answers, marked, took, fi
 use Rattle.desk.proofs.Choice.{and-left, and-right}
 use Rattle.desk.proofs.Pushing.{run-ends, run-takes, run-stops, run-forbidden}
 use Rattle.desk.proofs.Cutting.{Since, since-none, since-more, pushed-since}
+
+-- a push that the entry checks refuse
+pub push-refused : {S : Type 0} (next : Next S) (n : ℕ) (s : S) (chunk : List ℕ) (w m : ℕ) → pushOf next (suc n) s chunk w m ≡ answers (suc n) s
+unfolding pushOf
+push-refused next n s chunk w m = rw (eqb·suc-zero n)
+
+-- taken never falls
+run-more : {S : Type 0} (next : Next S) (w m : ℕ) (a : Answer S) (bs : List ℕ) → a .taken ≤ run next w m a bs .taken
+run-more next w m a [] = le-of-eq (ap (λ (x : Answer _). x .taken) (sym (run-ends next w m a)))
+run-more {S} next w m a (b ∷ bs) = go (next (a .after) b) refl (λ o. run-more next w m (took a o) bs)
+  where
+    go : (r : Option (Out S)) → next (a .after) b ≡ r → ((o : Out S) → a .taken + 1 ≤ run next w m (took a o) bs .taken) → a .taken ≤ run next w m a (b ∷ bs) .taken
+    go none e ih = le-of-eq (ap (λ (x : Answer S). x .taken) (sym (run-forbidden next w m a b bs e)))
+    go (some o) e ih = fit (fits w m a o) refl
+      where
+        fit : (c : Bool) → fits w m a o ≡ c → a .taken ≤ run next w m a (b ∷ bs) .taken
+        fit false d = le-of-eq (ap (λ (x : Answer S). x .taken) (sym (run-stops next w m a b bs o e d)))
+        fit true d = let i = ih o in let q : run next w m a (b ∷ bs) .taken ≡ run next w m (took a o) bs .taken = ap (λ (x : Answer S). x .taken) (run-takes next w m a b bs o e d) in omega arith
+
+-- FROM ANY STATE a push takes at least one byte, where it is not forbidden and all that it releases fits
+pub takes-first : {S : Type 0} (next : Next S) (s : S) (b : ℕ) (bs : List ℕ) (w m : ℕ) (o : Out S) → next s b ≡ some o → length (o .bytes) ≤ w → length (marked (o .mark) []) ≤ m
+    → 1 ≤ pushOf next 0 s (b ∷ bs) w m .taken
+unfolding pushOf
+takes-first {S} next s b bs w m o e x y =
+    let d : fits w m (answers 0 s) o ≡ true = ap₂ _&&_ (le-leb (0 + length (o .bytes)) w (omega arith)) (le-leb (0 + length (marked (o .mark) [])) m (omega arith)) in
+    let q : run next w m (answers 0 s) (b ∷ bs) .taken ≡ run next w m (took (answers 0 s) o) bs .taken = ap (λ (a : Answer S). a .taken) (run-takes next w m (answers 0 s) b bs o e d) in
+    let i = run-more next w m (took (answers 0 s) o) bs in
+    omega arith
 
 module _ {S : Type 0} {next : Next S} {s₀ : S} {rule : List ℕ → Seen S} (f : Follows next s₀ rule) where
   -- what is handed out only grows

@@ -80,7 +80,7 @@ one-at-most : (c : Bool) (b : ℕ) → length (cond c [] (b ∷ [])) ≤ 1
 one-at-most true b = omega arith
 one-at-most false b = omega arith
 
-unescape-few : (s : List ℕ) → length (unescape s) ≤ length s
+pub unescape-few : (s : List ℕ) → length (unescape s) ≤ length s
 unescape-few =
     snoc-ind (λ (s : List ℕ). length (unescape s) ≤ length s) (rw unescape-nil (omega arith))
     (λ h b i.

@@ -5,5 +5,10 @@ pub mod Decoding
 pub mod Escaping
 pub mod Legality
 pub mod Pushing
+pub mod Reach
+pub mod Rooms
+pub mod Sheets
 pub mod Stepping
+pub mod Traces
 pub mod Unescaping
+pub mod Unique

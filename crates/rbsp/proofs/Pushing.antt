@@ -4,7 +4,7 @@ use native.Mathlib.Omega.{arith}
 use mathlib.Core.Path.{_≡_, refl, ap, sym, _∙_, subst}
 use mathlib.Core.Bool.{Bool, true, false}
 use mathlib.Core.List.{List, [], _∷_}
-use mathlib.Core.Option.{Option, none, some}
+use mathlib.Core.Option.{Option, none, some, Option·some-injective}
 use lib.ListN.{length, take, drop, getD, replicate, length-replicate}
 use borrow.Rule.Slice.PartMut.{midOf, putMid}
 use Rattle.desk.specs.Numbers.{entryOf}
@@ -45,37 +45,38 @@ took-is r s b after n e q = sym e ∙ ap (λ (x : Stepped). stepped x b) q
 pub forbids-is : (r : Stepped) (s : ParseState) (b : ℕ) → stepped r b ≡ next s b → r ≡ Forbidden → next s b ≡ none
 forbids-is r s b e q = sym e ∙ ap (λ (x : Stepped). stepped x b) q
 
--- its byte goes out or not
+-- a byte is delivered or not, and ends nothing
+pub record Short (o : Out ParseState) : Type 0 where
+  pub one : length (o .bytes) ≤ 1
+  pub no-mark : o .mark ≡ false
+
+absurd-none : {o : Out ParseState} → _≡_ {A = Option (Out ParseState)} none (some o) → ⊥
+absurd-none {o} e = let z : _≡_ {A = ℕ} 0 1 = cc in omega arith
+
+short-is : {o o′ : Out ParseState} → some o ≡ some o′ → Short o → Short o′
+short-is {o} {o′} e h = subst Short (Option·some-injective o o′ e) h
+
+scan-short : (z b : ℕ) (o : Out ParseState) → next (Start z) b ≡ some o → Short o
+scan-short zero b o e = short-is e (record { one = omega arith; no-mark = refl })
+scan-short (suc zero) b o e = short-is e (record { one = omega arith; no-mark = refl })
+scan-short (suc (suc z)) zero o e = absurd (absurd-none e)
+scan-short (suc (suc z)) (suc zero) o e = absurd (absurd-none e)
+scan-short (suc (suc z)) (suc (suc zero)) o e = absurd (absurd-none e)
+scan-short (suc (suc z)) (suc (suc (suc zero))) o e = short-is e (record { one = omega arith; no-mark = refl })
+scan-short (suc (suc z)) (suc (suc (suc (suc b)))) o e = short-is e (record { one = omega arith; no-mark = refl })
+
+pub next-short : (s : ParseState) (b : ℕ) (o : Out ParseState) → next s b ≡ some o → Short o
+next-short (Start z) b o e = scan-short z b o e
+next-short (Skip zero) b o e = scan-short 0 b o e
+next-short (Skip (suc k)) b o e = short-is e (record { one = omega arith; no-mark = refl })
+next-short PostThree zero o e = short-is e (record { one = omega arith; no-mark = refl })
+next-short PostThree (suc zero) o e = short-is e (record { one = omega arith; no-mark = refl })
+next-short PostThree (suc (suc zero)) o e = short-is e (record { one = omega arith; no-mark = refl })
+next-short PostThree (suc (suc (suc zero))) o e = short-is e (record { one = omega arith; no-mark = refl })
+next-short PostThree (suc (suc (suc (suc b)))) o e = absurd (absurd-none e)
+
 pub next-one : (s : ParseState) (b n : ℕ) (s′ : ParseState) → next s b ≡ some (takes s′ (replicate n b)) → n ≤ 1
-next-one s b n s′ e = subst (λ (k : ℕ). k ≤ 1) (length-replicate n b) (short s b (takes s′ (replicate n b)) e)
-  where
-    absurd-none : {o : Out ParseState} → _≡_ {A = Option (Out ParseState)} none (some o) → ⊥
-    absurd-none {o} e = let z : _≡_ {A = ℕ} 0 1 = cc in omega arith
-
-    is : {o o′ : Out ParseState} → some o ≡ some o′ → length (o .bytes) ≤ 1 → length (o′ .bytes) ≤ 1
-    is {o} {o′} e h = let q : o ≡ o′ = cc in subst (λ (x : Out ParseState). length (x .bytes) ≤ 1) q h
-
-    scanned : (z b : ℕ) (o : Out ParseState) → next (Start z) b ≡ some o → length (o .bytes) ≤ 1
-    scanned zero b o e = is e (omega arith)
-    scanned (suc zero) b o e = is e (omega arith)
-    scanned (suc (suc z)) zero o e = absurd (absurd-none e)
-    scanned (suc (suc z)) (suc zero) o e = absurd (absurd-none e)
-    scanned (suc (suc z)) (suc (suc zero)) o e = absurd (absurd-none e)
-    scanned (suc (suc z)) (suc (suc (suc zero))) o e = is e (omega arith)
-    scanned (suc (suc z)) (suc (suc (suc (suc b)))) o e = is e (omega arith)
-
-    three : (b : ℕ) (o : Out ParseState) → next PostThree b ≡ some o → length (o .bytes) ≤ 1
-    three zero o e = is e (omega arith)
-    three (suc zero) o e = is e (omega arith)
-    three (suc (suc zero)) o e = is e (omega arith)
-    three (suc (suc (suc zero))) o e = is e (omega arith)
-    three (suc (suc (suc (suc b)))) o e = absurd (absurd-none e)
-
-    short : (s : ParseState) (b : ℕ) (o : Out ParseState) → next s b ≡ some o → length (o .bytes) ≤ 1
-    short (Start z) b o e = scanned z b o e
-    short (Skip zero) b o e = scanned 0 b o e
-    short (Skip (suc k)) b o e = is e (omega arith)
-    short PostThree b o e = three b o e
+next-one s b n s′ e = subst (λ (k : ℕ). k ≤ 1) (length-replicate n b) (next-short s b (takes s′ (replicate n b)) e .one)
 
 -- the writer's byte goes out alone or behind a 03
 pub released-length : (n b : ℕ) → n ≤ 2 → length (released n b) ≡ n

@@ -2,3 +2,4 @@
 pub mod Rule
 pub mod Step
 pub mod Answer
+pub mod Promise

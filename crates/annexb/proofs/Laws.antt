@@ -1,0 +1,121 @@
+-- THE LAWS OF FRAMING THAT A CALLER CITES: cuts, room, what follows any history, one outcome.
+use Prim.Native.Nat.{ℕ, zero, suc, _+_, _≤_, _<_, zero-le}
+use native.Mathlib.Omega.{arith}
+use lib.Dec.{ltb, eqb}
+use mathlib.Core.Path.{_≡_, refl, ap, ap₂, sym, _∙_, subst}
+use mathlib.Core.Bool.{Bool, true, false, cond, _&&_}
+use mathlib.Core.List.{List, [], _∷_, _++_}
+use mathlib.Core.Option.{Option, none, some}
+use lib.ListN.{length, take, replicate, length-append, length-replicate}
+use borrow.Author.Tests.{le-ltb, eqb-true}
+use Rattle.desk.specs.Numbers.{most, entryOf}
+use Rattle.desk.specs.Search.{is0, is1, upTo1, trail, two}
+use Rattle.desk.specs.Push.{Out, Answer, answers, marked, run, pushOf, Pushes, shifted, Seen, seen, Cut, accepts, Fits, Longest}
+use Rattle.desk.proofs.Choice.{cond-ind, cond-by}
+use Rattle.desk.proofs.Cutting.{pushes-cut}
+use Rattle.desk.proofs.Entering.{entry-done}
+use Rattle.desk.proofs.Taking.{push-longest, takes-all, takes-one}
+use Rattle.desk.proofs.Unique.{one-outcome}
+use Rattle.annexb.specs.declared.AnnexBReader.{AnnexBReader}
+use Rattle.annexb.specs.declared.Pushed.{Pushed}
+use Rattle.annexb.specs.Rule.{given, ends, frame}
+use Rattle.annexb.specs.Seen.{new, rule, stateOf}
+use Rattle.annexb.specs.Step.{inStep, outStep, step, stepping}
+use Rattle.annexb.specs.Answer.{entering, pushAnswer, Gave}
+use Rattle.annexb.proofs.Following.{follows}
+use Rattle.annexb.proofs.Pushing.{zeros-passed}
+use Rattle.annexb.proofs.Restart.{restart}
+
+-- ---- cuts
+
+-- AFTER EACH PUSH, HOWEVER THE STREAM IS CUT, from any state that is not bad: what was handed out is what the rule gives for the bytes taken
+pub pushes-rule : {s₀ : AnnexBReader} → s₀ .zeros ≤ 2 → {stream : List ℕ} {n : ℕ} {s : AnnexBReader} {g e : List ℕ}
+    → Pushes stepping entering s₀ stream n s g e → Cut (rule s₀) stream n s g e
+pushes-rule {s₀} k p = pushes-cut (follows s₀ k) p
+
+-- so two ways of cutting that have taken as many bytes, one push of them all among them, agree
+pub same-however-cut : {s₀ : AnnexBReader} → s₀ .zeros ≤ 2 → {stream : List ℕ} {n : ℕ} {s s′ : AnnexBReader} {g e g′ e′ : List ℕ}
+    → Pushes stepping entering s₀ stream n s g e → Pushes stepping entering s₀ stream n s′ g′ e′ → (s ≡ s′) × (g ≡ g′) × (e ≡ e′)
+same-however-cut k p q =
+    let same = sym (pushes-rule k p .rule-gives) ∙ pushes-rule k q .rule-gives in
+    (ap (λ (v : Seen AnnexBReader). v .state) same, ap (λ (v : Seen AnnexBReader). v .bytes) same, ap (λ (v : Seen AnnexBReader). v .ends) same)
+
+-- ---- any history
+
+pub no-byte-forbidden : (s : AnnexBReader) (bs : List ℕ) → accepts stepping s bs ≡ true
+no-byte-forbidden s [] = refl
+no-byte-forbidden s (b ∷ bs) = no-byte-forbidden (step s b .after) bs
+
+pub trail-few : (s : List ℕ) → trail s ≤ 2
+trail-few [] = omega arith
+trail-few (x ∷ []) = cond-ind (λ (n : ℕ). n ≤ 2) (is0 x) 1 0 (omega arith) (omega arith)
+trail-few (x ∷ y ∷ []) = cond-ind (λ (n : ℕ). n ≤ 2) (is0 y) (cond (is0 x) 2 1) 0 (cond-ind (λ (n : ℕ). n ≤ 2) (is0 x) 2 1 (omega arith) (omega arith)) (omega arith)
+trail-few (x ∷ y ∷ z ∷ s) = trail-few (y ∷ z ∷ s)
+
+-- FROM ANY HISTORY h ON, the rule of the state reached gives what the rule gives for h ++ t beyond h
+pub onward : (h t : List ℕ)
+    → rule new (h ++ t) ≡ seen (rule (stateOf h) t .state) (given h ++ rule (stateOf h) t .bytes) (ends h ++ shifted (length (given h)) (rule (stateOf h) t .ends))
+onward h t = restart (follows new zero-le) h (follows (stateOf h) (trail-few (frame h .rest))) t (no-byte-forbidden (stateOf h) t)
+
+-- ---- room
+
+module _ (s : AnnexBReader) (chunk : List ℕ) (w m : ℕ) (e : entering s (length chunk) w m ≡ 0) where
+  few : s .zeros ≤ 2
+  few = zeros-passed (length chunk ∷ w ∷ m ∷ []) (s .zeros) (entering s (length chunk) w m) refl e
+
+  from-here : pushOf stepping 0 (rule s [] .state) chunk w m ≡ pushAnswer s chunk w m
+  from-here = ap₂ (λ (n : ℕ) (x : AnnexBReader). pushOf stepping n x chunk w m) (sym e) (ap (λ (v : Seen AnnexBReader). v .state) (follows s few .new))
+
+  -- A PUSH THAT IS NOT REFUSED TAKES THE LONGEST FRONT ALL OF WHOSE RELEASES FIT
+  pub push-takes-longest : Longest stepping (rule s) [] chunk w m (pushAnswer s chunk w m)
+  push-takes-longest = subst (Longest stepping (rule s) [] chunk w m) from-here (push-longest (follows s few) [] chunk w m)
+
+  -- all of it, where the rooms hold what the rule gives
+  pub push-takes-all : Fits (rule s) [] chunk w m → pushAnswer s chunk w m .taken ≡ length chunk
+  push-takes-all fit =
+      subst (λ (a : Answer AnnexBReader). a .taken ≡ length chunk) from-here (takes-all (follows s few) [] chunk w m (no-byte-forbidden (rule s [] .state) chunk) fit .0)
+
+step-three : (s : AnnexBReader) (b : ℕ) → s .zeros ≤ 2 → length (step s b .bytes) ≤ 3
+step-three s b h =
+    cond-ind (λ (o : Out AnnexBReader). length (o .bytes) ≤ 3) (s .«in_unit») (inStep (s .zeros) b) (outStep (s .zeros) b)
+    (cond-ind (λ (o : Out AnnexBReader). length (o .bytes) ≤ 3) (two (s .zeros) && upTo1 b) _ _ zero-le
+    (cond-ind (λ (l : List ℕ). length l ≤ 3) (is0 b) [] (replicate (s .zeros) 0 ++ b ∷ []) zero-le (simp (length-append, length-replicate) (omega arith))))
+    (cond-ind (λ (o : Out AnnexBReader). length (o .bytes) ≤ 3) (two (s .zeros) && is1 b) _ _ zero-le zero-le)
+
+mark-one : (c : Bool) (l : List ℕ) → length (marked c l) ≤ 1
+mark-one true l = omega arith
+mark-one false l = omega arith
+
+-- LENT THREE BYTES AND ONE MARK IT TAKES AT LEAST ONE BYTE
+pub push-takes-one : (s : AnnexBReader) (b : ℕ) (bs : List ℕ) (w m : ℕ) → entering s (length (b ∷ bs)) w m ≡ 0 → 3 ≤ w → 1 ≤ m → 1 ≤ pushAnswer s (b ∷ bs) w m .taken
+push-takes-one s b bs w m e h k =
+    let z = few s (b ∷ bs) w m e in
+    let s′ = rule s [] .state in
+    let same : s′ ≡ s = ap (λ (v : Seen AnnexBReader). v .state) (follows s z .new) in
+    let z′ : s′ .zeros ≤ 2 = subst (λ (x : AnnexBReader). x .zeros ≤ 2) (sym same) z in
+    subst (λ (a : Answer AnnexBReader). 1 ≤ a .taken) (from-here s (b ∷ bs) w m e)
+    (takes-one (follows s z) [] b bs w m (step s′ b) refl (omega (arith, step-three s′ b z′)) (omega (arith, mark-one (step s′ b .mark) (rule s [] .bytes))))
+
+-- ---- numbers
+
+refused-number : (s : AnnexBReader) (chunk : List ℕ) (w m n : ℕ) → eqb n 0 ≡ false → pushOf stepping n s chunk w m .number ≡ n
+unfolding pushOf
+refused-number s chunk w m n q = rw q refl
+
+-- a push answers 0, 1 or 2, by its entry checks alone
+pub push-number : (s : AnnexBReader) (chunk : List ℕ) (w m : ℕ) → pushAnswer s chunk w m .number ≡ entering s (length chunk) w m
+push-number s chunk w m = go (eqb (entering s (length chunk) w m) 0) refl
+  where
+    go : (c : Bool) → eqb (entering s (length chunk) w m) 0 ≡ c → pushAnswer s chunk w m .number ≡ entering s (length chunk) w m
+    go true q =
+        let e = eqb-true (entering s (length chunk) w m) 0 q in
+        let l = push-takes-longest s chunk w m e in
+        l .number-0 (λ k. let x : _≡_ {A = ℕ} 0 1 = cc (l .number-7 k .1) in omega arith) .0 ∙ sym e
+    go false q = refused-number s chunk w m (entering s (length chunk) w m) q
+
+-- ---- ONE OUTCOME: what the contract of a push or of a reset says leaves one
+pub one-result : {a : Answer AnnexBReader} {room marks room₁ room₂ marks₁ marks₂ : List ℕ} {r₁ r₂ : Pushed}
+    → Gave a room marks room₁ marks₁ r₁ → Gave a room marks room₂ marks₂ r₂ → (r₁ ≡ r₂) × (room₁ ≡ room₂) × (marks₁ ≡ marks₂)
+one-result p q =
+    let same = one-outcome p q in
+    (λ i. record { number = same .number i; taken = same .taken i; written = same .wrote i; marked = same .marked i; state = same .state i }, same .out, same .marks)
