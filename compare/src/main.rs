@@ -2,6 +2,7 @@
 //!
 //!     compare run [ROUNDS [SEED]]    ROUNDS random inputs of each kind, beside the exhaustive ones
 mod escaping;
+mod framing;
 mod make;
 mod tally;
 
@@ -21,6 +22,7 @@ fn run(rounds: usize, seed: u64) {
     let mut tally = tally::Tally::default();
     let mut random = make::Random::new(seed);
     escaping::run(&mut tally, &mut random, rounds);
+    framing::run(&mut tally, &mut random, rounds);
     tally.print();
     println!("no difference");
 }

@@ -102,3 +102,12 @@ pub fn room(len: usize) -> Vec<u8> {
 pub fn holds(room: &[u8], bytes: &[u8]) -> bool {
     room.starts_with(bytes) && (bytes.len()..room.len()).all(|i| room[i] == stain(i))
 }
+
+/// The same of marks.
+pub fn mark_room(len: usize) -> Vec<u64> {
+    (0..len).map(|i| u64::from(stain(i)) << 40).collect()
+}
+
+pub fn holds_marks(room: &[u64], marks: &[u64]) -> bool {
+    room.starts_with(marks) && (marks.len()..room.len()).all(|i| room[i] == u64::from(stain(i)) << 40)
+}

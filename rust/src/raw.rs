@@ -28,6 +28,26 @@ mod c {
             room_len: usize,
             answer: *mut [u64; 3],
         );
+        pub fn dampfeather_annexb_push(
+            in_unit: bool,
+            zeros: u8,
+            chunk: *const u8,
+            chunk_len: usize,
+            room: *mut u8,
+            room_len: usize,
+            marks: *mut u64,
+            marks_len: usize,
+            answer: *mut [u64; 6],
+        );
+        pub fn dampfeather_annexb_reset(
+            in_unit: bool,
+            zeros: u8,
+            room: *mut u8,
+            room_len: usize,
+            marks: *mut u64,
+            marks_len: usize,
+            answer: *mut [u64; 6],
+        );
     }
 }
 
@@ -51,5 +71,31 @@ pub fn byte_writer_push(zero_count: u8, chunk: &[u8], out: &mut [u8]) -> [u64; 4
 pub fn decode_nal(nal: &[u8], room: &mut [u8]) -> [u64; 3] {
     let mut answer = [0; 3];
     unsafe { c::dampfeather_decode_nal(nal.as_ptr(), nal.len(), room.as_mut_ptr(), room.len(), &mut answer) };
+    answer
+}
+
+/// Number, bytes taken, bytes written, marks written; then the state: 1 in a unit, zeros.
+pub fn annexb_push(in_unit: bool, zeros: u8, chunk: &[u8], room: &mut [u8], marks: &mut [u64]) -> [u64; 6] {
+    let mut answer = [0; 6];
+    unsafe {
+        c::dampfeather_annexb_push(
+            in_unit,
+            zeros,
+            chunk.as_ptr(),
+            chunk.len(),
+            room.as_mut_ptr(),
+            room.len(),
+            marks.as_mut_ptr(),
+            marks.len(),
+            &mut answer,
+        )
+    };
+    answer
+}
+
+/// As [`annexb_push`], of no bytes.
+pub fn annexb_reset(in_unit: bool, zeros: u8, room: &mut [u8], marks: &mut [u64]) -> [u64; 6] {
+    let mut answer = [0; 6];
+    unsafe { c::dampfeather_annexb_reset(in_unit, zeros, room.as_mut_ptr(), room.len(), marks.as_mut_ptr(), marks.len(), &mut answer) };
     answer
 }

@@ -1,2 +1,3 @@
 -- What the contracts of `exports` cite.
 pub mod Escaping
+pub mod Framing

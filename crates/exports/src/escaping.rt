@@ -1,6 +1,7 @@
 // Escaping: the calls of `rbsp`.
 ghost use mathlib.Core.Path.{_≡_};
 ghost use Rattle.exports.specs.Escaping.{readerOf, readNumbers, FrontsRead, writerOf, writeNumbers, FrontsWrite, decodeNumbers, FrontsDecode};
+use super::numbers::wide;
 use rbsp::nal::Decoded;
 use rbsp::nal::decode_nal;
 use rbsp::reader::ByteReader;
@@ -26,12 +27,6 @@ fn reader_of(zeros: u8, skip: usize, post_three: bool) -> ByteReader
     ByteReader {
         state: ParseState::Skip(skip),
     }
-}
-
-fn wide(x: u8) -> u64
-    ensures { λ r. ⌜ r ≡ x ⌝ }
-{
-    x as u64
 }
 
 fn read_numbers(r: Pushed) -> [u64; 6]
