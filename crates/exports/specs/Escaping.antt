@@ -1,6 +1,5 @@
 -- The numbers of the states and answers of `rbsp`. Assumes nothing: these are definitions.
 use Prim.Native.Nat.{ℕ}
-use mathlib.Core.Path.{_≡_}
 use mathlib.Core.Bool.{Bool, cond}
 use lib.Dec.{eqb}
 use mathlib.Core.List.{List, [], _∷_}
@@ -12,6 +11,7 @@ use Rattle.rbsp.specs.declared.writer.ByteWriter.{ByteWriter}
 use Rattle.rbsp.specs.declared.writer.Written.{Written}
 use Rattle.rbsp.specs.declared.nal.Decoded.{Decoded}
 use Rattle.rbsp.specs.declared.nal.Decoded.the-variants.{Own, Filled, TooLong, Empty, Forbidden, NoRoom}
+use Rattle.exports.specs.Fronts.{Fronts}
 use Rattle.rbsp.specs.Answer.{ReadPush, WritePush, Decodes}
 
 -- any three numbers are a state of the reader: behind a removed 03; else with bytes yet to drop; else behind so many zeros
@@ -27,11 +27,8 @@ readState n t w PostThree = n ∷ t ∷ w ∷ 0 ∷ 0 ∷ 1 ∷ []
 abbrev pub readNumbers : Pushed → List ℕ
 readNumbers r = readState (r .number) (r .taken) (r .written) (r .state .state)
 
--- the push's own contract, and its answer as numbers
-pub record FrontsRead (s : ParseState) (chunk out out′ answer′ : List ℕ) : Type 0 where
-  pub r : Pushed
-  pub call : ReadPush s chunk out out′ r
-  pub numbers : answer′ ≡ readNumbers r
+abbrev pub FrontsRead : ParseState → List ℕ → List ℕ → List ℕ → List ℕ → Type 0
+FrontsRead s chunk out out′ = Fronts (ReadPush s chunk out out′) readNumbers
 
 abbrev pub writerOf : ℕ → ByteWriter
 writerOf zeros = record { «zero_count» = zeros }
@@ -39,10 +36,8 @@ writerOf zeros = record { «zero_count» = zeros }
 abbrev pub writeNumbers : Written → List ℕ
 writeNumbers r = r .number ∷ r .taken ∷ r .written ∷ r .state .«zero_count» ∷ []
 
-pub record FrontsWrite (s : ByteWriter) (chunk out out′ answer′ : List ℕ) : Type 0 where
-  pub r : Written
-  pub call : WritePush s chunk out out′ r
-  pub numbers : answer′ ≡ writeNumbers r
+abbrev pub FrontsWrite : ByteWriter → List ℕ → List ℕ → List ℕ → List ℕ → Type 0
+FrontsWrite s chunk out out′ = Fronts (WritePush s chunk out out′) writeNumbers
 
 -- the number; whether the room was filled; and the count of filled bytes, or the index of the forbidden byte
 abbrev pub decodeNumbers : Decoded → List ℕ
@@ -53,7 +48,5 @@ decodeNumbers Empty = emptyNal ∷ 0 ∷ 0 ∷ []
 decodeNumbers (Forbidden i) = forbiddenByte ∷ 0 ∷ i ∷ []
 decodeNumbers NoRoom = noRoom ∷ 0 ∷ 0 ∷ []
 
-pub record FrontsDecode (nal room room′ answer′ : List ℕ) : Type 0 where
-  pub r : Decoded
-  pub call : Decodes nal room room′ r
-  pub numbers : answer′ ≡ decodeNumbers r
+abbrev pub FrontsDecode : List ℕ → List ℕ → List ℕ → List ℕ → Type 0
+FrontsDecode nal room room′ = Fronts (Decodes nal room room′) decodeNumbers

@@ -1,3 +1,5 @@
 -- What the contracts of `exports` cite.
+pub mod Fronts
 pub mod Escaping
 pub mod Framing
+pub mod Bits

@@ -3,3 +3,5 @@
 pub mod escaping;
 pub mod framing;
 mod numbers;
+pub mod reading;
+pub mod writing;

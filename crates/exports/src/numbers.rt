@@ -14,3 +14,9 @@ pub fn flag(x: bool) -> u64
 {
     if x { 1 } else { 0 }
 }
+
+pub fn wide_u32(x: u32) -> u64
+    ensures { λ r. ⌜ r ≡ x ⌝ }
+{
+    x as u64
+}

@@ -21,7 +21,7 @@ returns c =
     record {
       r = pushed .push .result;
       call = rw (sym (pushed .before .before .reader-of .ensures)) (pushed .push .ensures);
-      numbers = c .read-numbers .ensures;
+      told = c .read-numbers .ensures;
     }
 
 pub dampfeather-byte-reader-push-spec : {M : Type 1} → statement M
