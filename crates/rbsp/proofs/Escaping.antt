@@ -10,7 +10,7 @@ use lib.ListN.{length, take, drop, length-drop}
 use Rattle.desk.specs.Push.{Out, Seen, seen, seenAfter, Follows}
 use Rattle.desk.specs.Search.{is0, upTo3, stands, next as further, first, trail, two, zerosAfter}
 use Rattle.desk.proofs.Choice.{ap-cond, cond-ind}
-use Rattle.desk.proofs.Lists.{trail-past, trail-cons}
+use Rattle.desk.proofs.Lists.{snoc-ind, trail-past, trail-cons}
 use Rattle.desk.proofs.Search.{trail-more, stays}
 use Rattle.rbsp.specs.Rule.{escape, escapeAt, escapeBy}
 use Rattle.rbsp.specs.Step.{zeros, stuffs, escapes, writes}
@@ -42,6 +42,10 @@ by-table (suc n) (x ∷ y ∷ z ∷ s) h = go (stands upTo3 (x ∷ y ∷ z ∷ s
 escape-table : (s : List ℕ) → escape s ≡ table s
 unfolding escape
 escape-table s = by-table (length s) s (omega arith)
+
+escape-nil : escape [] ≡ []
+unfolding escape
+escape-nil = refl
 
 -- THE RULE, AS ITS SENTENCES HAVE IT, with no bound on the searches
 pub escape-none : (s : List ℕ) → first upTo3 s ≡ none → escape s ≡ s
@@ -102,6 +106,16 @@ out-of z b false o e q = Option·some-injective _ o q
 trail-out : (g : List ℕ) (b : ℕ) (c : Bool) → trail (g ++ cond c (3 ∷ b ∷ []) (b ∷ [])) ≡ cond c (zerosAfter 0 b) (zerosAfter (trail g) b)
 trail-out g b true = ap trail (sym (append-assoc g (3 ∷ []) (b ∷ []))) ∙ trail-more (g ++ 3 ∷ []) b ∙ ap (λ (n : ℕ). zerosAfter n b) (trail-more g 3)
 trail-out g b false = trail-more g b
+
+-- what does not end in 00 does not when it is escaped
+pub escape-trail : (s : List ℕ) → trail s ≡ 0 → trail (escape s) ≡ 0
+escape-trail = snoc-ind (λ (s : List ℕ). trail s ≡ 0 → trail (escape s) ≡ 0) (λ e. ap trail escape-nil) (λ h b ih e. ap trail (escape-more h b) ∙ trail-out (escape h) b (stuffs (trail (escape h)) b) ∙ none-left b (trail h) (sym (trail-more h b) ∙ e) (stuffs (trail (escape h)) b) (trail (escape h)))
+  where
+    none-left : (b z : ℕ) → zerosAfter z b ≡ 0 → (c : Bool) (y : ℕ) → cond c (zerosAfter 0 b) (zerosAfter y b) ≡ 0
+    none-left (suc b) z e true y = refl
+    none-left (suc b) z e false y = refl
+    none-left zero zero e c y = let x : ⊥ = omega arith in absurd x
+    none-left zero (suc z) e c y = let x : ⊥ = omega arith in absurd x
 
 writes-more : (h : List ℕ) (b : ℕ) (o : Out ByteWriter) → escapes (writes h .state) b ≡ some o → writes (h ++ b ∷ []) ≡ seenAfter (writes h) o
 writes-more h b o q =
