@@ -12,7 +12,7 @@ use Rattle.desk.specs.Search.{is0, upTo3, stands, next as further, first, trail
 use Rattle.desk.proofs.Choice.{ap-cond, cond-ind}
 use Rattle.desk.proofs.Lists.{snoc-ind, trail-past, trail-cons}
 use Rattle.desk.proofs.Search.{trail-more, stays}
-use Rattle.rbsp.specs.Rule.{escape, escapeAt, escapeBy}
+use Rattle.rbsp.specs.Rule.{Escapes, escape, escapeAt, escapeBy}
 use Rattle.rbsp.specs.Step.{zeros, stuffs, escapes, writes}
 use Rattle.rbsp.specs.declared.writer.ByteWriter.{ByteWriter}
 
@@ -61,6 +61,24 @@ escape-some (x ∷ s) i e =
     let t = drop 2 (drop i (x ∷ s)) in
     ap (escapeAt (x ∷ s) (escapeBy (length s))) e
     ∙ ap (λ (l : List ℕ). take i (x ∷ s) ++ 0 ∷ 0 ∷ 3 ∷ l) (by-table (length s) t (omega (arith, q .less, length-drop 2 (drop i (x ∷ s)))) ∙ sym (by-table (length t) t (omega arith)))
+
+-- `escape s` IS WHAT THE TWO SENTENCES SAY OF s, and nothing else is
+pub escapes-one : {s t : List ℕ} → Escapes s t → t ≡ escape s
+escapes-one {s} (Escapes.nowhere e) = sym (escape-none s e)
+escapes-one {s} (Escapes.at-place {i = i} e d) = ap (λ (l : List ℕ). take i s ++ 0 ∷ 0 ∷ 3 ∷ l) (escapes-one d) ∙ sym (escape-some s i e)
+
+pub escape-is : (s : List ℕ) → Escapes s (escape s)
+unfolding escape
+escape-is s = by-places (length s) s (omega arith)
+  where
+    by-places : (n : ℕ) (s : List ℕ) → length s ≤ n → Escapes s (escapeBy n s)
+    by-places zero [] h = Escapes.nowhere refl
+    by-places zero (x ∷ s) h = absurd (not-suc-le-zero h)
+    by-places (suc n) s h = go (first upTo3 s) refl (λ l k. by-places n l k)
+      where
+        go : (r : Option ℕ) → first upTo3 s ≡ r → ((l : List ℕ) → length l ≤ n → Escapes l (escapeBy n l)) → Escapes s (escapeAt s (escapeBy n) r)
+        go none e ih = Escapes.nowhere e
+        go (some i) e ih = let q = stays upTo3 s [] i e in Escapes.at-place e (ih (drop 2 (drop i s)) (omega (arith, q .shorter, q .less, length-drop 2 (drop i s))))
 
 -- what a byte releases, behind z zeros
 abbrev pub let-out : ℕ → ℕ → List ℕ
