@@ -7,7 +7,7 @@ use lib.ListN.{length, take, replicate}
 use lib.Seq.{take-length}
 use Rattle.desk.specs.Room.{written}
 use Rattle.desk.specs.Push.{Answer, answers, pushOf, Gives, Pushes, shifted, Seen, seen}
-use Rattle.desk.proofs.Room.{front}
+use Rattle.desk.proofs.Room.{front, written-at-least}
 use Rattle.annexb.specs.declared.AnnexBReader.{AnnexBReader}
 use Rattle.annexb.specs.declared.Pushed.{Pushed}
 use Rattle.annexb.specs.Rule.{frameFrom, frame, given, ends, joined, endsFrom, unitsAtReset}
@@ -25,6 +25,9 @@ wrote-bytes {a} {room} o = ap₂ take (o .wrote-is) (o .room) ∙ front room (a 
 
 pub wrote-marks : {a : Answer AnnexBReader} {room marks room′ marks′ : List ℕ} {r : Pushed} → Gave a room marks room′ marks′ r → take (r .marked) marks′ ≡ a .marks
 wrote-marks {a} {room} {marks} o = ap₂ take (o .marked-is) (o .mark-room) ∙ front marks (a .marks)
+
+pub marks-fit : {a : Answer AnnexBReader} {room marks room′ marks′ : List ℕ} {r : Pushed} → Gave a room marks room′ marks′ r → r .marked ≤ length marks′
+marks-fit {a} {room} {marks} o = rw (o .mark-room, o .marked-is) (written-at-least marks (a .marks))
 
 -- one push, by the rule of the state it starts from
 pub push-rule : (s : AnnexBReader) (chunk room marks room′ marks′ : List ℕ) (r : Pushed) → s .zeros ≤ 2 → Gave (pushAnswer s chunk (length room) (length marks)) room marks room′ marks′ r

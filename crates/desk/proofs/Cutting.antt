@@ -24,7 +24,7 @@ marked-by : (c : Bool) (l : List ℕ) (k : ℕ) → length l ≡ k → marked c 
 marked-by c l k e = ap (λ (n : ℕ). cond c (n ∷ []) []) e
 
 -- the front of a room that was written
-written-front : (n : ℕ) (room bs room′ : List ℕ) → n ≡ length bs → room′ ≡ written room bs → take n room′ ≡ bs
+pub written-front : (n : ℕ) (room bs room′ : List ℕ) → n ≡ length bs → room′ ≡ written room bs → take n room′ ≡ bs
 written-front n room bs room′ e q = ap₂ take e q ∙ front room bs
 
 -- what was taken of a push's chunk is the stream's next bytes

@@ -10,9 +10,9 @@ use lib.ListN.{length, take, drop, length-drop}
 use Rattle.desk.specs.Push.{Out, Seen, seen, seenAfter, Follows}
 use Rattle.desk.specs.Search.{is0, upTo3, stands, next as further, first, trail, two, zerosAfter}
 use Rattle.desk.proofs.Choice.{ap-cond, cond-ind}
-use Rattle.desk.proofs.Lists.{trail-past, trail-cons}
+use Rattle.desk.proofs.Lists.{snoc-ind, trail-past, trail-cons}
 use Rattle.desk.proofs.Search.{trail-more, stays}
-use Rattle.rbsp.specs.Rule.{escape, escapeAt, escapeBy}
+use Rattle.rbsp.specs.Rule.{Escapes, escape, escapeAt, escapeBy}
 use Rattle.rbsp.specs.Step.{zeros, stuffs, escapes, writes}
 use Rattle.rbsp.specs.declared.writer.ByteWriter.{ByteWriter}
 
@@ -43,6 +43,10 @@ escape-table : (s : List ℕ) → escape s ≡ table s
 unfolding escape
 escape-table s = by-table (length s) s (omega arith)
 
+escape-nil : escape [] ≡ []
+unfolding escape
+escape-nil = refl
+
 -- THE RULE, AS ITS SENTENCES HAVE IT, with no bound on the searches
 pub escape-none : (s : List ℕ) → first upTo3 s ≡ none → escape s ≡ s
 unfolding escape
@@ -57,6 +61,24 @@ escape-some (x ∷ s) i e =
     let t = drop 2 (drop i (x ∷ s)) in
     ap (escapeAt (x ∷ s) (escapeBy (length s))) e
     ∙ ap (λ (l : List ℕ). take i (x ∷ s) ++ 0 ∷ 0 ∷ 3 ∷ l) (by-table (length s) t (omega (arith, q .less, length-drop 2 (drop i (x ∷ s)))) ∙ sym (by-table (length t) t (omega arith)))
+
+-- `escape s` IS WHAT THE TWO SENTENCES SAY OF s, and nothing else is
+pub escapes-one : {s t : List ℕ} → Escapes s t → t ≡ escape s
+escapes-one {s} (Escapes.nowhere e) = sym (escape-none s e)
+escapes-one {s} (Escapes.at-place {i = i} e d) = ap (λ (l : List ℕ). take i s ++ 0 ∷ 0 ∷ 3 ∷ l) (escapes-one d) ∙ sym (escape-some s i e)
+
+pub escape-is : (s : List ℕ) → Escapes s (escape s)
+unfolding escape
+escape-is s = by-places (length s) s (omega arith)
+  where
+    by-places : (n : ℕ) (s : List ℕ) → length s ≤ n → Escapes s (escapeBy n s)
+    by-places zero [] h = Escapes.nowhere refl
+    by-places zero (x ∷ s) h = absurd (not-suc-le-zero h)
+    by-places (suc n) s h = go (first upTo3 s) refl (λ l k. by-places n l k)
+      where
+        go : (r : Option ℕ) → first upTo3 s ≡ r → ((l : List ℕ) → length l ≤ n → Escapes l (escapeBy n l)) → Escapes s (escapeAt s (escapeBy n) r)
+        go none e ih = Escapes.nowhere e
+        go (some i) e ih = let q = stays upTo3 s [] i e in Escapes.at-place e (ih (drop 2 (drop i s)) (omega (arith, q .shorter, q .less, length-drop 2 (drop i s))))
 
 -- what a byte releases, behind z zeros
 abbrev pub let-out : ℕ → ℕ → List ℕ
@@ -102,6 +124,16 @@ out-of z b false o e q = Option·some-injective _ o q
 trail-out : (g : List ℕ) (b : ℕ) (c : Bool) → trail (g ++ cond c (3 ∷ b ∷ []) (b ∷ [])) ≡ cond c (zerosAfter 0 b) (zerosAfter (trail g) b)
 trail-out g b true = ap trail (sym (append-assoc g (3 ∷ []) (b ∷ []))) ∙ trail-more (g ++ 3 ∷ []) b ∙ ap (λ (n : ℕ). zerosAfter n b) (trail-more g 3)
 trail-out g b false = trail-more g b
+
+-- what does not end in 00 does not when it is escaped
+pub escape-trail : (s : List ℕ) → trail s ≡ 0 → trail (escape s) ≡ 0
+escape-trail = snoc-ind (λ (s : List ℕ). trail s ≡ 0 → trail (escape s) ≡ 0) (λ e. ap trail escape-nil) (λ h b ih e. ap trail (escape-more h b) ∙ trail-out (escape h) b (stuffs (trail (escape h)) b) ∙ none-left b (trail h) (sym (trail-more h b) ∙ e) (stuffs (trail (escape h)) b) (trail (escape h)))
+  where
+    none-left : (b z : ℕ) → zerosAfter z b ≡ 0 → (c : Bool) (y : ℕ) → cond c (zerosAfter 0 b) (zerosAfter y b) ≡ 0
+    none-left (suc b) z e true y = refl
+    none-left (suc b) z e false y = refl
+    none-left zero zero e c y = let x : ⊥ = omega arith in absurd x
+    none-left zero (suc z) e c y = let x : ⊥ = omega arith in absurd x
 
 writes-more : (h : List ℕ) (b : ℕ) (o : Out ByteWriter) → escapes (writes h .state) b ≡ some o → writes (h ++ b ∷ []) ≡ seenAfter (writes h) o
 writes-more h b o q =

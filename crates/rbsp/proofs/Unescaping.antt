@@ -13,7 +13,7 @@ use Rattle.desk.specs.Search.{is0, is3, stands, next as further, first, trail, 
 use Rattle.desk.proofs.Choice.{ap-cond, and-left, and-right}
 use Rattle.desk.proofs.Lists.{trail-past}
 use Rattle.desk.proofs.Search.{trail-more, stays}
-use Rattle.rbsp.specs.Rule.{unescape, unescapeAt, unescapeBy, endsThree}
+use Rattle.rbsp.specs.Rule.{Unescapes, unescape, unescapeAt, unescapeBy, endsThree}
 use Rattle.rbsp.specs.Step.{takes, scan, skipping, next, readerAt, reads}
 use Rattle.rbsp.specs.declared.reader.ParseState.{ParseState}
 use Rattle.rbsp.specs.declared.reader.ParseState.the-variants.{Start, Skip, PostThree}
@@ -59,6 +59,24 @@ unescape-some (x ∷ s) i e =
     let t = drop 3 (drop i (x ∷ s)) in
     ap (unescapeAt (x ∷ s) (unescapeBy (length s))) e
     ∙ ap (λ (l : List ℕ). take i (x ∷ s) ++ 0 ∷ 0 ∷ l) (by-table (length s) t (omega (arith, q .shorter)) ∙ sym (by-table (length t) t (omega arith)))
+
+-- `unescape s` IS WHAT THE TWO SENTENCES SAY OF s, and nothing else is
+pub unescapes-one : {s t : List ℕ} → Unescapes s t → t ≡ unescape s
+unescapes-one {s} (Unescapes.nowhere e) = sym (unescape-none s e)
+unescapes-one {s} (Unescapes.at-place {i = i} e d) = ap (λ (l : List ℕ). take i s ++ 0 ∷ 0 ∷ l) (unescapes-one d) ∙ sym (unescape-some s i e)
+
+pub unescape-is : (s : List ℕ) → Unescapes s (unescape s)
+unfolding unescape
+unescape-is s = by-places (length s) s (omega arith)
+  where
+    by-places : (n : ℕ) (s : List ℕ) → length s ≤ n → Unescapes s (unescapeBy n s)
+    by-places zero [] h = Unescapes.nowhere refl
+    by-places zero (x ∷ s) h = absurd (not-suc-le-zero h)
+    by-places (suc n) s h = go (first is3 s) refl (λ l k. by-places n l k)
+      where
+        go : (r : Option ℕ) → first is3 s ≡ r → ((l : List ℕ) → length l ≤ n → Unescapes l (unescapeBy n l)) → Unescapes s (unescapeAt s (unescapeBy n) r)
+        go none e ih = Unescapes.nowhere e
+        go (some i) e ih = let q = stays is3 s [] i e in Unescapes.at-place e (ih (drop 3 (drop i s)) (omega (arith, q .shorter)))
 
 -- what is removed, by the zeros before it
 abbrev pub kept : ℕ → ℕ → List ℕ

@@ -29,7 +29,7 @@ pub struct Pushed {
 }
 
 // What a byte does: the state behind it and whether it is delivered, as the count of bytes that it releases; or it is forbidden.
-pub enum Stepped {
+pub(crate) enum Stepped {
     Take(ParseState, usize),
     Forbidden,
 }
@@ -77,7 +77,7 @@ fn skip(left: usize, b: u8) -> Stepped
     Stepped::Take(skip_left(left - 1), 0)
 }
 
-pub fn step(state: ParseState, b: u8) -> Stepped
+pub(crate) fn step(state: ParseState, b: u8) -> Stepped
     ensures { λ r. ⌜ stepped r b ≡ next state b ⌝ }
 {
     match state {

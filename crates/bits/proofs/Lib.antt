@@ -1,0 +1,19 @@
+-- Laws.
+pub mod Value
+pub mod Trailing
+pub mod Ones
+pub mod Entry
+pub mod Taking
+pub mod Top
+pub mod Signs
+pub mod Storing
+pub mod Codes
+pub mod Reading
+pub mod Locality
+pub mod Refusing
+pub mod OneCode
+pub mod Unique
+pub mod Writing
+pub mod WriteRead
+pub mod Sheets
+pub mod Reach

@@ -1,0 +1,89 @@
+-- Each number of a reader is given exactly where its reason holds; and which numbers are left to a caller that has made the entry checks itself.
+-- Assumes nothing.
+use mathlib.Core.Path.{_≡_, refl, sym, ap, _∙_}
+use mathlib.Core.List.{List}
+use mathlib.Core.Bool.{false, true}
+use mathlib.Core.Logic.{_⊎_, inl, inr}
+use mathlib.Core.Option.{Option, none, some}
+use Prim.Native.Nat.{ℕ, suc, _+_, _-_, _≤_, _<_}
+use native.Mathlib.Omega.{arith}
+use borrow.Author.Tests.{lt-ltb, le-ltb, ltb-false}
+use lib.ListN.{length}
+use Rattle.desk.specs.Numbers.{most}
+use Rattle.bits.specs.Rule.{size, valueAt, firstOne}
+use Rattle.bits.specs.Answer.{Ans, got, no, unless, entryAt, pastEnd, readBits, readBit, readUe, readSe, asSigned, asBool}
+use Rattle.bits.specs.Reading.{Entered, WhyEntry, long, past, WhyBits, bitsEntry, bitsWide, bitsShort, OneAfter, WhyUe, ueEntry, ueNone, ueMany, ueShort}
+use Rattle.bits.proofs.Entry.{enters, why-entry}
+use Rattle.bits.proofs.Ones.{first-none, first-is}
+use Rattle.bits.proofs.Reading.{bits-refused, bit-refused, ue-refused, se-refused}
+
+-- ---- the entry checks, for a caller that makes them itself
+
+pub not-past : (s : List ℕ) (p : ℕ) → pastEnd s p ≡ false → p ≤ size s
+unfolding pastEnd
+not-past s p e = ltb-false (size s) p e
+
+pub is-past : (s : List ℕ) (p : ℕ) → size s < p → pastEnd s p ≡ true
+unfolding pastEnd
+is-past s p h = lt-ltb (size s) p h
+
+-- ---- the reasons suffice
+
+entry-no : {A : Type 0} {s : List ℕ} {p k : ℕ} (x : Ans A) → WhyEntry s p k → unless no (entryAt s p) x ≡ no k
+entry-no x (long h) = rw (why-entry (long h))
+entry-no x (past h l) = rw (why-entry (past h l))
+
+pub bits-refuse : {s : List ℕ} {p n k : ℕ} → WhyBits s p n k → readBits s p n ≡ no k
+unfolding readBits
+bits-refuse (bitsEntry w) = entry-no _ w
+bits-refuse {s} {p} {n} (bitsWide g h) = simp (enters s p g, lt-ltb 32 n h)
+bits-refuse {s} {p} {n} (bitsShort g w h) = simp (enters s p g, le-ltb 32 n w, lt-ltb (size s) (p + n) h)
+
+first-at : (s : List ℕ) (p z : ℕ) → OneAfter s p z → firstOne s p (size s - p) ≡ some (p + z)
+first-at s p z o = let w = o .within in ap (firstOne s p) (omega arith) ∙ first-is s p z (size s - p - suc z) (o .one)
+
+pub ue-refuse : {s : List ℕ} {p k : ℕ} → WhyUe s p k → readUe s p ≡ no k
+unfolding readUe
+ue-refuse (ueEntry w) = entry-no _ w
+ue-refuse {s} {p} (ueNone g h) = simp (enters s p g, first-none s p (size s - p) h)
+ue-refuse {s} {p} (ueMany z g o h) =
+    let e : p + z - p ≡ z = omega arith in
+    simp (enters s p g, first-at s p z o, e, lt-ltb 31 z h)
+ue-refuse {s} {p} (ueShort z g o h l) =
+    let e : p + z - p ≡ z = omega arith in
+    simp (enters s p g, first-at s p z o, e, le-ltb 31 z h, lt-ltb (size s) (p + z + 1 + z) (omega arith))
+
+-- ---- behind the entry checks
+
+not-entry : {s : List ℕ} {p k : ℕ} → Entered s p → WhyEntry s p k → ⊥
+not-entry g (long h) = omega arith
+not-entry g (past h l) = omega arith
+
+module _ (s : List ℕ) (p : ℕ) (g : Entered s p) (k : ℕ) where
+  pub bits-number : (n : ℕ) → n ≤ 32 → readBits s p n ≡ no k → k ≡ 4
+  bits-number n h e = go (bits-refused s p n k e)
+    where
+      go : {k : ℕ} → WhyBits s p n k → k ≡ 4
+      go (bitsEntry w) = absurd (not-entry g w)
+      go (bitsWide g′ w) = absurd (let z : ⊥ = omega arith in z)
+      go (bitsShort g′ w l) = refl
+
+  pub bit-number : readBit s p ≡ no k → k ≡ 4
+  bit-number e = go (bit-refused s p k e)
+    where
+      go : {k : ℕ} → WhyBits s p 1 k → k ≡ 4
+      go (bitsEntry w) = absurd (not-entry g w)
+      go (bitsWide g′ w) = absurd (let z : ⊥ = omega arith in z)
+      go (bitsShort g′ w l) = refl
+
+  ue-why : {k : ℕ} → WhyUe s p k → (k ≡ 4) ⊎ (k ≡ 5)
+  ue-why (ueEntry w) = absurd (not-entry g w)
+  ue-why (ueNone g′ h) = inl refl
+  ue-why (ueMany z g′ o h) = inr refl
+  ue-why (ueShort z g′ o h l) = inl refl
+
+  pub ue-number : readUe s p ≡ no k → (k ≡ 4) ⊎ (k ≡ 5)
+  ue-number e = ue-why (ue-refused s p k e)
+
+  pub se-number : readSe s p ≡ no k → (k ≡ 4) ⊎ (k ≡ 5)
+  se-number e = ue-why (se-refused s p k e)

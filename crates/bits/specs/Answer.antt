@@ -1,0 +1,270 @@
+-- WHAT EACH CALL ANSWERS, for everything that goes in, refusals included; and, for each call, the record that ties its result to that answer.
+use Prim.Native.Nat.{ℕ, zero, suc, _+_, _-_, _*_, _/_, _%_, _^_}
+use mathlib.Core.Path.{_≡_}
+use mathlib.Core.List.{List, [], _∷_}
+use mathlib.Core.Bool.{Bool, true, false, cond, _||_}
+use mathlib.Core.Option.{Option, none, some}
+use lib.ListN.{length}
+use lib.Dec.{ltb, leb, eqb}
+use lib.IntN.{ℤ, natAbs}
+use Rattle.desk.specs.Numbers.{most, done, badWidth, bitsRunOut, expGolombTooLarge, remainingData, noCode, noRoom, entryOf}
+use Rattle.bits.specs.Rule.{size, valueAt, firstOne, lastOne, signedOf, unsignedOf, prefixOf}
+use Rattle.bits.specs.Step.{Wrote, wrote, kept, stored}
+use Rattle.bits.specs.declared.BitReader.{BitReader}
+use Rattle.bits.specs.declared.Bits.{Bits}
+use Rattle.bits.specs.declared.Bits.the-variants.{Value, Refused}
+use Rattle.bits.specs.declared.Bit.{Bit}
+use Rattle.bits.specs.declared.Bit.the-variants.{Value as BValue, Refused as BRefused}
+use Rattle.bits.specs.declared.Signed.{Signed}
+use Rattle.bits.specs.declared.Signed.the-variants.{Value as SValue, Refused as SRefused}
+use Rattle.bits.specs.declared.Moved.{Moved}
+use Rattle.bits.specs.declared.Moved.the-variants.{To, Refused as MRefused}
+use Rattle.bits.specs.declared.More.{More}
+use Rattle.bits.specs.declared.More.the-variants.{Yes, No, Refused as YRefused}
+use Rattle.bits.specs.declared.Aligned.{Aligned}
+use Rattle.bits.specs.declared.Aligned.the-variants.{At, Within}
+use Rattle.bits.specs.declared.Mapped.{Mapped}
+use Rattle.bits.specs.declared.Mapped.the-variants.{Value as Is, Refused as NRefused}
+use Rattle.bits.specs.declared.BitWriter.{BitWriter}
+use Rattle.bits.specs.declared.Put.{Put}
+use Rattle.bits.specs.declared.Put.the-variants.{Done, Refused as PRefused}
+
+-- what a read gives: a value and the place after it; or a number of the table, and the reader stays where it was
+pub data Ans (A : Type 0) : Type 0 where
+  got : A → ℕ → Ans A
+  no : ℕ → Ans A
+
+-- what a question gives: an answer, or a number of the table
+pub data Told (A : Type 0) : Type 0 where
+  told : A → Told A
+  not : ℕ → Told A
+
+-- the next field is read from where the one before it stopped, or the whole read is refused
+abbrev pub andThen : {A B : Type 0} → Ans A → (A → ℕ → Ans B) → Ans B
+andThen (got a p) f = f a p
+andThen (no n) f = no n
+
+-- a number of the entry checks, unless it is 0
+abbrev pub unless : {A : Type 0} → (ℕ → A) → ℕ → A → A
+unless refuse zero x = x
+unless refuse (suc n) x = refuse (suc n)
+
+-- ---- reading
+
+-- at the start
+abbrev pub newReader : BitReader
+newReader = record { at = record { 0 = 0 } }
+
+-- the position is past the end
+unfoldable pub pastEnd : List ℕ → ℕ → Bool
+pastEnd s p = ltb (size s) p
+
+-- entry checks 1 and 2 of a reader at place p
+abbrev pub entryAt : List ℕ → ℕ → ℕ
+entryAt s p = entryOf (length s ∷ 0 ∷ 0 ∷ []) (pastEnd s p)
+
+-- u(n) at p
+unfoldable pub readBits : List ℕ → ℕ → ℕ → Ans ℕ
+readBits s p n =
+    unless no (entryAt s p)
+    (cond (ltb 32 n) (no badWidth) (cond (ltb (size s) (p + n)) (no bitsRunOut) (got (valueAt s p n) (p + n))))
+
+-- one bit, as yes or no
+abbrev pub asBool : Ans ℕ → Ans Bool
+asBool (got v q) = got (eqb v 1) q
+asBool (no n) = no n
+
+unfoldable pub readBit : List ℕ → ℕ → Ans Bool
+readBit s p = asBool (readBits s p 1)
+
+-- ue(v) at p whose one stands at q: q - p zeros, the one, and as many bits
+abbrev pub ueFrom : List ℕ → ℕ → Option ℕ → Ans ℕ
+ueFrom s p none = no bitsRunOut
+ueFrom s p (some q) =
+    cond (ltb 31 (q - p)) (no expGolombTooLarge)
+    (cond (ltb (size s) (q + 1 + (q - p))) (no bitsRunOut)
+    (got (2 ^ (q - p) - 1 + valueAt s (q + 1) (q - p)) (q + 1 + (q - p))))
+
+unfoldable pub readUe : List ℕ → ℕ → Ans ℕ
+readUe s p = unless no (entryAt s p) (ueFrom s p (firstOne s p (size s - p)))
+
+-- se(v)
+abbrev pub asSigned : Ans ℕ → Ans ℤ
+asSigned (got k q) = got (signedOf k) q
+asSigned (no n) = no n
+
+unfoldable pub readSe : List ℕ → ℕ → Ans ℤ
+readSe s p = asSigned (readUe s p)
+
+-- n bits on
+unfoldable pub skipped : List ℕ → ℕ → ℕ → Ans Unit
+skipped s p n = unless no (entryAt s p) (cond (ltb (size s) (p + n)) (no bitsRunOut) (got tt (p + n)))
+
+-- is L, the last one at or after p, behind p?
+abbrev pub behind : ℕ → Option ℕ → Bool
+behind p none = false
+behind p (some l) = ltb p l
+
+unfoldable pub hasMore : List ℕ → ℕ → Told Bool
+hasMore s p = unless not (entryAt s p) (told (behind p (lastOne s p (size s - p))))
+
+-- 0 where L is p, 6 where it is behind p, and another number where there is no L
+abbrev pub finishFrom : ℕ → ℕ → Option ℕ → ℕ
+finishFrom missing p none = missing
+finishFrom missing p (some l) = cond (eqb l p) done remainingData
+
+unfoldable pub finishRbsp : List ℕ → ℕ → ℕ
+finishRbsp s p = unless (λ n. n) (entryAt s p) (finishFrom bitsRunOut p (lastOne s p (size s - p)))
+
+unfoldable pub finishSei : List ℕ → ℕ → ℕ
+finishSei s p = unless (λ n. n) (entryAt s p) (cond (eqb p (size s)) done (finishFrom remainingData p (lastOne s p (size s - p))))
+
+-- ---- what the answers of the code stand for
+
+abbrev pub answer : Bits → Ans ℕ
+answer (Value v r) = got v (r .at .0)
+answer (Refused n r) = no n
+
+abbrev pub bitAnswer : Bit → Ans Bool
+bitAnswer (BValue v r) = got v (r .at .0)
+bitAnswer (BRefused n r) = no n
+
+abbrev pub signedAnswer : Signed → Ans ℤ
+signedAnswer (SValue v r) = got v (r .at .0)
+signedAnswer (SRefused n r) = no n
+
+abbrev pub movedAnswer : Moved → Ans Unit
+movedAnswer (To r) = got tt (r .at .0)
+movedAnswer (MRefused n r) = no n
+
+abbrev pub moreAnswer : More → Told Bool
+moreAnswer Yes = told true
+moreAnswer No = told false
+moreAnswer (YRefused n) = not n
+
+-- an answer's number: 0, or that of the refusal
+abbrev pub number : {A : Type 0} → Ans A → ℕ
+number (got a q) = done
+number (no n) = n
+
+-- a refusal gives the reader back as it came
+abbrev pub Same : BitReader → Bits → Type 0
+Same from (Value v r) = Unit
+Same from (Refused n r) = r ≡ from
+
+abbrev pub BitSame : BitReader → Bit → Type 0
+BitSame from (BValue v r) = Unit
+BitSame from (BRefused n r) = r ≡ from
+
+abbrev pub SignedSame : BitReader → Signed → Type 0
+SignedSame from (SValue v r) = Unit
+SignedSame from (SRefused n r) = r ≡ from
+
+abbrev pub MovedSame : BitReader → Moved → Type 0
+MovedSame from (To r) = Unit
+MovedSame from (MRefused n r) = r ≡ from
+
+-- ---- the contracts of reading, for each kind of answer
+
+pub record Reads (from : BitReader) (r : Bits) (a : Ans ℕ) : Type 0 where
+  pub answers : answer r ≡ a
+  pub same : Same from r
+
+pub record ReadsBit (from : BitReader) (r : Bit) (a : Ans Bool) : Type 0 where
+  pub answers : bitAnswer r ≡ a
+  pub same : BitSame from r
+
+pub record ReadsSigned (from : BitReader) (r : Signed) (a : Ans ℤ) : Type 0 where
+  pub answers : signedAnswer r ≡ a
+  pub same : SignedSame from r
+
+pub record Moves (from : BitReader) (r : Moved) (a : Ans Unit) : Type 0 where
+  pub answers : movedAnswer r ≡ a
+  pub same : MovedSame from r
+
+-- ---- positions, and se(v)'s mapping as a call
+
+-- the place of the byte that starts at a bit's place
+abbrev pub wholeBytes : ℕ → Option ℕ
+wholeBytes p = cond (eqb (p % 8) 0) (some (p / 8)) none
+
+abbrev pub alignedAnswer : Aligned → Option ℕ
+alignedAnswer (At b) = some (b .0)
+alignedAnswer Within = none
+
+-- 2 ^ 32 - 1, the last of the u32, has no code
+abbrev pub mapped : ℕ → Told ℤ
+mapped k = cond (leb 4294967295 k) (not noCode) (told (signedOf k))
+
+abbrev pub mappedAnswer : Mapped → Told ℤ
+mappedAnswer (Is z) = told z
+mappedAnswer (NRefused n) = not n
+
+-- ---- writing
+
+-- nothing written, nothing pending
+abbrev pub newWriter : BitWriter
+newWriter = record { written = record { 0 = 0 }; pending = 0; count = 0 }
+
+-- bytes written past the room; a pending count over 7; a pending value not below 2 ^ count
+abbrev pub badWriter : ℕ → ℕ → ℕ → ℕ → Bool
+badWriter len w p c = ltb len w || (ltb 7 c || leb (2 ^ c) p)
+
+-- entry checks 1 and 2 of a writer in a room of len bytes
+abbrev pub entryOn : ℕ → ℕ → ℕ → ℕ → ℕ
+entryOn len w p c = entryOf (len ∷ 0 ∷ 0 ∷ []) (badWriter len w p c)
+
+-- n bits of v, where the whole bytes have room
+abbrev pub roomed : List ℕ → ℕ → ℕ → ℕ → ℕ → ℕ → Wrote
+roomed o w p c n v = cond (ltb (length o) (w + (c + n) / 8)) (kept noRoom o) (stored o w p c n v)
+
+-- u(n) of v
+unfoldable pub writeBits : List ℕ → ℕ → ℕ → ℕ → ℕ → ℕ → Wrote
+writeBits o w p c n v =
+    unless (λ k. kept k o) (entryOn (length o) w p c)
+    (cond (ltb 32 n) (kept badWidth o) (cond (leb (2 ^ n) v) (kept badWidth o) (roomed o w p c n v)))
+
+abbrev pub bitNumber : Bool → ℕ
+bitNumber b = cond b 1 0
+
+unfoldable pub writeBit : List ℕ → ℕ → ℕ → ℕ → Bool → Wrote
+writeBit o w p c b = writeBits o w p c 1 (bitNumber b)
+
+-- ue(v)'s code: M zeros, a one and M bits are v + 1 as a number of 2 M + 1 bits
+abbrev pub ueWidth : ℕ → ℕ
+ueWidth v = prefixOf v + (prefixOf v + 1)
+
+-- 9 for a value that no code has: among the u32, 2 ^ 32 - 1
+unfoldable pub writeUe : List ℕ → ℕ → ℕ → ℕ → ℕ → Wrote
+writeUe o w p c v =
+    unless (λ k. kept k o) (entryOn (length o) w p c) (cond (leb 4294967295 v) (kept noCode o) (roomed o w p c (ueWidth v) (v + 1)))
+
+-- 9 for a value that no code has: among the i32, -2 ^ 31
+unfoldable pub writeSe : List ℕ → ℕ → ℕ → ℕ → ℤ → Wrote
+writeSe o w p c z =
+    unless (λ k. kept k o) (entryOn (length o) w p c)
+    (cond (leb 2147483648 (natAbs z)) (kept noCode o) (roomed o w p c (ueWidth (unsignedOf z)) (unsignedOf z + 1)))
+
+-- trailing bits: a one and 7 - c zeros, which fill up the byte
+unfoldable pub writeTrailing : List ℕ → ℕ → ℕ → ℕ → Wrote
+writeTrailing o w p c = unless (λ k. kept k o) (entryOn (length o) w p c) (roomed o w p c (8 - c) (2 ^ (7 - c)))
+
+-- ---- the contract of writing
+
+-- a writer and its room
+abbrev pub after : BitWriter → List ℕ → Wrote
+after st o = wrote (st .written .0) (st .pending) (st .count) o
+
+abbrev pub outcome : Put → List ℕ → Wrote
+outcome (Done st) o = after st o
+outcome (PRefused n st) o = kept n o
+
+-- a refusal gives the writer back as it came
+abbrev pub PutSame : BitWriter → Put → Type 0
+PutSame from (Done st) = Unit
+PutSame from (PRefused n st) = st ≡ from
+
+-- what a call answers, and what the room holds as it returns
+pub record Writes (from : BitWriter) (r : Put) (room : List ℕ) (a : Wrote) : Type 0 where
+  pub answers : outcome r room ≡ a
+  pub same : PutSame from r

@@ -1,0 +1,3 @@
+-- Laws that other crates cite, and what the proofs of the code cite.
+pub mod Counting
+pub mod Gaps

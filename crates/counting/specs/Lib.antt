@@ -1,0 +1,3 @@
+-- What the contracts and laws cite.
+pub mod Listing
+pub mod Tally
