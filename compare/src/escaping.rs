@@ -73,7 +73,7 @@ fn original_escape(pieces: &[&[u8]]) -> Vec<u8> {
 }
 
 /// A writer whose bytes can be looked at while the original holds it.
-struct Shared<'a>(&'a RefCell<Vec<u8>>);
+pub struct Shared<'a>(pub &'a RefCell<Vec<u8>>);
 
 impl Write for Shared<'_> {
     fn write(&mut self, buf: &[u8]) -> std::io::Result<usize> {

@@ -3,8 +3,11 @@
 //!     compare run [ROUNDS [SEED]]    ROUNDS random inputs of each kind, beside the exhaustive ones
 mod escaping;
 mod framing;
+mod known;
 mod make;
+mod reading;
 mod tally;
+mod writing;
 
 fn main() {
     let words: Vec<String> = std::env::args().skip(1).collect();
@@ -23,6 +26,9 @@ fn run(rounds: usize, seed: u64) {
     let mut random = make::Random::new(seed);
     escaping::run(&mut tally, &mut random, rounds);
     framing::run(&mut tally, &mut random, rounds);
+    reading::run(&mut tally, &mut random, rounds);
+    writing::run(&mut tally, &mut random, rounds);
+    known::run();
     tally.print();
     println!("no difference");
 }

@@ -48,6 +48,37 @@ mod c {
             marks_len: usize,
             answer: *mut [u64; 6],
         );
+        pub fn dampfeather_read(at: usize, s: *const u8, s_len: usize, width: u32, answer: *mut [u64; 3]);
+        pub fn dampfeather_read_ue(at: usize, s: *const u8, s_len: usize, answer: *mut [u64; 3]);
+        pub fn dampfeather_read_bit(at: usize, s: *const u8, s_len: usize, answer: *mut [u64; 3]);
+        pub fn dampfeather_read_se(at: usize, s: *const u8, s_len: usize, value: *mut i32, answer: *mut [u64; 2]);
+        pub fn dampfeather_skip(at: usize, s: *const u8, s_len: usize, bit_count: u32, answer: *mut [u64; 2]);
+        pub fn dampfeather_has_more_rbsp_data(at: usize, s: *const u8, s_len: usize, answer: *mut [u64; 2]);
+        pub fn dampfeather_finish_rbsp(at: usize, s: *const u8, s_len: usize) -> u8;
+        pub fn dampfeather_finish_sei_payload(at: usize, s: *const u8, s_len: usize) -> u8;
+        pub fn dampfeather_byte_aligned(at: usize) -> bool;
+        pub fn dampfeather_golomb_to_signed(val: u32, value: *mut i32) -> u8;
+        pub fn dampfeather_write(
+            written: usize,
+            pending: u8,
+            count: u8,
+            out: *mut u8,
+            out_len: usize,
+            width: u32,
+            value: u32,
+            answer: *mut [u64; 4],
+        );
+        pub fn dampfeather_write_bit(written: usize, pending: u8, count: u8, out: *mut u8, out_len: usize, bit: bool, answer: *mut [u64; 4]);
+        pub fn dampfeather_write_ue(written: usize, pending: u8, count: u8, out: *mut u8, out_len: usize, value: u32, answer: *mut [u64; 4]);
+        pub fn dampfeather_write_se(written: usize, pending: u8, count: u8, out: *mut u8, out_len: usize, value: i32, answer: *mut [u64; 4]);
+        pub fn dampfeather_write_rbsp_trailing_bits(
+            written: usize,
+            pending: u8,
+            count: u8,
+            out: *mut u8,
+            out_len: usize,
+            answer: *mut [u64; 4],
+        );
     }
 }
 
@@ -97,5 +128,104 @@ pub fn annexb_push(in_unit: bool, zeros: u8, chunk: &[u8], room: &mut [u8], mark
 pub fn annexb_reset(in_unit: bool, zeros: u8, room: &mut [u8], marks: &mut [u64]) -> [u64; 6] {
     let mut answer = [0; 6];
     unsafe { c::dampfeather_annexb_reset(in_unit, zeros, room.as_mut_ptr(), room.len(), marks.as_mut_ptr(), marks.len(), &mut answer) };
+    answer
+}
+
+/// u(width) at bit `at`: number, value, and the place behind it.
+pub fn read(at: usize, s: &[u8], width: u32) -> [u64; 3] {
+    let mut answer = [0; 3];
+    unsafe { c::dampfeather_read(at, s.as_ptr(), s.len(), width, &mut answer) };
+    answer
+}
+
+/// ue(v): as [`read`].
+pub fn read_ue(at: usize, s: &[u8]) -> [u64; 3] {
+    let mut answer = [0; 3];
+    unsafe { c::dampfeather_read_ue(at, s.as_ptr(), s.len(), &mut answer) };
+    answer
+}
+
+/// One bit: as [`read`].
+pub fn read_bit(at: usize, s: &[u8]) -> [u64; 3] {
+    let mut answer = [0; 3];
+    unsafe { c::dampfeather_read_bit(at, s.as_ptr(), s.len(), &mut answer) };
+    answer
+}
+
+/// se(v): the value (0 of a refusal); number, and the place behind it.
+pub fn read_se(at: usize, s: &[u8]) -> (i32, [u64; 2]) {
+    let mut value = 0;
+    let mut answer = [0; 2];
+    unsafe { c::dampfeather_read_se(at, s.as_ptr(), s.len(), &mut value, &mut answer) };
+    (value, answer)
+}
+
+/// Number, and the place behind what was skipped.
+pub fn skip(at: usize, s: &[u8], bit_count: u32) -> [u64; 2] {
+    let mut answer = [0; 2];
+    unsafe { c::dampfeather_skip(at, s.as_ptr(), s.len(), bit_count, &mut answer) };
+    answer
+}
+
+/// Number, and 1 for yes.
+pub fn has_more_rbsp_data(at: usize, s: &[u8]) -> [u64; 2] {
+    let mut answer = [0; 2];
+    unsafe { c::dampfeather_has_more_rbsp_data(at, s.as_ptr(), s.len(), &mut answer) };
+    answer
+}
+
+/// The number.
+pub fn finish_rbsp(at: usize, s: &[u8]) -> u8 {
+    unsafe { c::dampfeather_finish_rbsp(at, s.as_ptr(), s.len()) }
+}
+
+/// The number.
+pub fn finish_sei_payload(at: usize, s: &[u8]) -> u8 {
+    unsafe { c::dampfeather_finish_sei_payload(at, s.as_ptr(), s.len()) }
+}
+
+pub fn byte_aligned(at: usize) -> bool {
+    unsafe { c::dampfeather_byte_aligned(at) }
+}
+
+/// The number, and the value (0 of a refusal).
+pub fn golomb_to_signed(val: u32) -> (u8, i32) {
+    let mut value = 0;
+    let number = unsafe { c::dampfeather_golomb_to_signed(val, &mut value) };
+    (number, value)
+}
+
+/// u(width) of `value`: number; then the writer: bytes written, pending bits as a number, and their count.
+pub fn write(written: usize, pending: u8, count: u8, out: &mut [u8], width: u32, value: u32) -> [u64; 4] {
+    let mut answer = [0; 4];
+    unsafe { c::dampfeather_write(written, pending, count, out.as_mut_ptr(), out.len(), width, value, &mut answer) };
+    answer
+}
+
+/// One bit: as [`write`].
+pub fn write_bit(written: usize, pending: u8, count: u8, out: &mut [u8], bit: bool) -> [u64; 4] {
+    let mut answer = [0; 4];
+    unsafe { c::dampfeather_write_bit(written, pending, count, out.as_mut_ptr(), out.len(), bit, &mut answer) };
+    answer
+}
+
+/// ue(v): as [`write`].
+pub fn write_ue(written: usize, pending: u8, count: u8, out: &mut [u8], value: u32) -> [u64; 4] {
+    let mut answer = [0; 4];
+    unsafe { c::dampfeather_write_ue(written, pending, count, out.as_mut_ptr(), out.len(), value, &mut answer) };
+    answer
+}
+
+/// se(v): as [`write`].
+pub fn write_se(written: usize, pending: u8, count: u8, out: &mut [u8], value: i32) -> [u64; 4] {
+    let mut answer = [0; 4];
+    unsafe { c::dampfeather_write_se(written, pending, count, out.as_mut_ptr(), out.len(), value, &mut answer) };
+    answer
+}
+
+/// A one, then zeros to the byte boundary: as [`write`].
+pub fn write_rbsp_trailing_bits(written: usize, pending: u8, count: u8, out: &mut [u8]) -> [u64; 4] {
+    let mut answer = [0; 4];
+    unsafe { c::dampfeather_write_rbsp_trailing_bits(written, pending, count, out.as_mut_ptr(), out.len(), &mut answer) };
     answer
 }
