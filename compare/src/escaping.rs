@@ -64,7 +64,7 @@ fn original_unescape(s: &[u8], skip: usize, piece: usize) -> (Vec<u8>, bool) {
     }
 }
 
-fn original_escape(pieces: &[&[u8]]) -> Vec<u8> {
+pub fn original_escape(pieces: &[&[u8]]) -> Vec<u8> {
     let mut writer = rbsp::ByteWriter::new(Vec::new());
     for piece in pieces {
         writer.write_all(piece).unwrap();
@@ -360,6 +360,12 @@ fn random_writer(tally: &mut Tally, how: How, random: &mut Random, s: &[u8]) {
     follow(tally, How::ShortRooms, Port::writer(), s, &fronts, &[(s.len(), short), (s.len(), fronts.delivered.len())]);
     let sequence = plan(random, s.len());
     follow(tally, How::Sequences, Port::writer(), s, &fronts, &sequence);
+}
+
+/// What the original delivers of the longest front that it accepts, that front's length, and whether a byte behind it is forbidden.
+pub fn original_reads(s: &[u8], skip: usize) -> (Vec<u8>, usize, bool) {
+    let fronts = Fronts::by_byte(s, skip);
+    (fronts.delivered, fronts.forbidden.unwrap_or(s.len()), fronts.forbidden.is_some())
 }
 
 /// A NAL that the original accepts: a header and an escaped RBSP.

@@ -85,6 +85,15 @@ fn original_reset(s: &[u8]) -> Option<usize> {
     }
 }
 
+/// All that the original hands out for a stream and a reset behind it: the joined bytes, and the ends of units in them.
+pub fn original_units(s: &[u8]) -> (Vec<u8>, Vec<usize>) {
+    let mut reader = AnnexBReader::for_fragment_handler(Handed::default());
+    reader.push(s);
+    reader.reset();
+    let handed = reader.into_fragment_handler();
+    (handed.bytes, handed.ends)
+}
+
 #[derive(Clone, Copy, Debug)]
 enum Call {
     /// a chunk's length, and rooms for bytes and marks

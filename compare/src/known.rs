@@ -1,5 +1,6 @@
 //! The known differences (docs/DIFFERENCES.md), each at its smallest input: both sides are asked, and are held to what the list says of them.
 use crate::escaping::Pieces;
+use crate::groups::{context, original_groups, original_no_groups};
 use crate::tally::hex;
 use dampfeather::raw;
 use h264_reader::rbsp::{self, BitRead, BitWrite};
@@ -93,5 +94,12 @@ pub fn run() {
     let mut reader = rbsp::BitReader::new(&[0x80, 0x80][..]);
     assert!(reader.read_var::<u32>(17, "").is_err());
     let left = reader.into_reader().len();
+    // 40: map type 1
+    let read = |height: u32, n: u32| original_groups(&context(1, height), &[0x40], 0, n).0.answer[0].to_string();
+    let port = |size: u32, n: u32| raw::read_slice_groups(0, &[0x40], n, 1, size, &mut []).answer[0].to_string();
+    is("slice groups of a picture of 36,865 map units", read(36_865, 1).as_str(), "0", &port(36_865, 1), "11");
+    let none = original_no_groups(&context(1, 1), &[0x40]);
+    is("slice groups with num_slice_groups_minus1 = 0", if none { "none" } else { "some" }, "none", &port(1, 0), "11");
+
     is("bytes left behind a read of 17 bits in 80 80", left, 0, 2 - raw::read(0, &[0x80, 0x80], 17)[2] as usize / 8, 2);
 }

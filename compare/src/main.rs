@@ -1,11 +1,14 @@
 //! The original and the port beside each other.
 //!
 //!     compare run [ROUNDS [SEED]]    ROUNDS random inputs of each kind, beside the exhaustive ones
+//!     compare record FOLDER          a sample of the original's answers, into FOLDER/data and FOLDER/stdout
 mod escaping;
 mod framing;
+mod groups;
 mod known;
 mod make;
 mod reading;
+mod record;
 mod tally;
 mod writing;
 
@@ -14,8 +17,9 @@ fn main() {
     let number = |i: usize, default: u64| words.get(i).map_or(default, |w| w.parse().expect("a number"));
     match words.first().map(String::as_str) {
         Some("run") => run(number(1, 20_000) as usize, number(2, 1)),
+        Some("record") => record::run(words.get(1).expect("a folder").as_ref(), 1),
         _ => {
-            eprintln!("usage: compare run [ROUNDS [SEED]]");
+            eprintln!("usage: compare run [ROUNDS [SEED]] | record FOLDER");
             std::process::exit(2);
         }
     }
@@ -28,6 +32,7 @@ fn run(rounds: usize, seed: u64) {
     framing::run(&mut tally, &mut random, rounds);
     reading::run(&mut tally, &mut random, rounds);
     writing::run(&mut tally, &mut random, rounds);
+    groups::run(&mut tally, &mut random, rounds);
     known::run();
     tally.print();
     println!("no difference");

@@ -37,7 +37,7 @@ impl Call {
 pub type Answer = (u64, i64, usize);
 
 /// Document 01's number for an error of the original.
-fn number(e: &BitReaderError) -> u64 {
+pub fn number(e: &BitReaderError) -> u64 {
     match e {
         BitReaderError::ReaderError(_, e) if e.kind() == ErrorKind::UnexpectedEof => 4,
         BitReaderError::ReaderError(_, e) if e.kind() == ErrorKind::InvalidInput => 3,
@@ -47,14 +47,14 @@ fn number(e: &BitReaderError) -> u64 {
     }
 }
 
-fn reader_at(s: &[u8], at: usize, piece: usize) -> BitReader<Pieces<'_>> {
+pub fn reader_at(s: &[u8], at: usize, piece: usize) -> BitReader<Pieces<'_>> {
     let mut reader = BitReader::new(Pieces { rest: s, piece });
     reader.skip(at as u32, "").unwrap();
     reader
 }
 
 /// How far a reader has come: it takes whole bytes, so the bits up to the next byte are read and taken off.
-fn place(s: &[u8], mut reader: BitReader<Pieces<'_>>) -> usize {
+pub fn place(s: &[u8], mut reader: BitReader<Pieces<'_>>) -> usize {
     let mut ahead = 0;
     while !reader.byte_aligned() {
         reader.read_bit("").unwrap();
@@ -164,7 +164,7 @@ fn exhaustive(tally: &mut Tally) {
     }
 }
 
-fn any_call(random: &mut Random) -> Call {
+pub fn any_call(random: &mut Random) -> Call {
     match random.below(12) {
         0..=2 => Call::Read(random.below(36) as u32),
         3..=5 => Call::ReadUe,

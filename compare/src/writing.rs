@@ -27,7 +27,7 @@ impl Call {
         }
     }
 
-    fn any(random: &mut Random) -> Call {
+    pub fn any(random: &mut Random) -> Call {
         let width = random.below(33) as u32;
         let bits = (random.next() as u32) >> random.below(32);
         match random.below(10) {

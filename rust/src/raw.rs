@@ -79,6 +79,24 @@ mod c {
             out_len: usize,
             answer: *mut [u64; 4],
         );
+        pub fn dampfeather_byte_of(at: usize, answer: *mut [u64; 2]);
+        pub fn dampfeather_writer_byte_aligned(written: usize, pending: u8, count: u8) -> bool;
+        pub fn dampfeather_read_num_ref_idx(at: usize, s: *const u8, s_len: usize, answer: *mut [u64; 3]);
+        pub fn dampfeather_read_slice_rect(at: usize, s: *const u8, s_len: usize, width: u32, size: u32, answer: *mut [u64; 4]);
+        pub fn dampfeather_read_slice_groups(
+            at: usize,
+            s: *const u8,
+            s_len: usize,
+            num_slice_groups_minus1: u32,
+            width: u32,
+            size: u32,
+            ids: *mut u8,
+            ids_len: usize,
+            answer: *mut [u64; 4],
+            group: *mut [u64; 4],
+            runs: *mut [u32; 8],
+            rects: *mut [u32; 14],
+        );
     }
 }
 
@@ -228,4 +246,62 @@ pub fn write_rbsp_trailing_bits(written: usize, pending: u8, count: u8, out: &mu
     let mut answer = [0; 4];
     unsafe { c::dampfeather_write_rbsp_trailing_bits(written, pending, count, out.as_mut_ptr(), out.len(), &mut answer) };
     answer
+}
+
+/// 1 where a byte starts at bit `at`, and that byte's place.
+pub fn byte_of(at: usize) -> [u64; 2] {
+    let mut answer = [0; 2];
+    unsafe { c::dampfeather_byte_of(at, &mut answer) };
+    answer
+}
+
+pub fn writer_byte_aligned(written: usize, pending: u8, count: u8) -> bool {
+    unsafe { c::dampfeather_writer_byte_aligned(written, pending, count) }
+}
+
+/// num_ref_idx: as [`read`].
+pub fn read_num_ref_idx(at: usize, s: &[u8]) -> [u64; 3] {
+    let mut answer = [0; 3];
+    unsafe { c::dampfeather_read_num_ref_idx(at, s.as_ptr(), s.len(), &mut answer) };
+    answer
+}
+
+/// Number, the place behind the rectangle, top_left, bottom_right.
+pub fn read_slice_rect(at: usize, s: &[u8], width: u32, size: u32) -> [u64; 4] {
+    let mut answer = [0; 4];
+    unsafe { c::dampfeather_read_slice_rect(at, s.as_ptr(), s.len(), width, size, &mut answer) };
+    answer
+}
+
+/// The numbers of a slice-group read.
+#[derive(Clone, Debug, Default, PartialEq, Eq)]
+pub struct Groups {
+    /// number, the place behind the last field, num_slice_groups_minus1, ids written
+    pub answer: [u64; 4],
+    /// map type, direction, rate, pic_size_in_map_units_minus1
+    pub group: [u64; 4],
+    pub runs: [u32; 8],
+    /// top_left and bottom_right of each rectangle in turn
+    pub rects: [u32; 14],
+}
+
+pub fn read_slice_groups(at: usize, s: &[u8], num_slice_groups_minus1: u32, width: u32, size: u32, ids: &mut [u8]) -> Groups {
+    let mut g = Groups::default();
+    unsafe {
+        c::dampfeather_read_slice_groups(
+            at,
+            s.as_ptr(),
+            s.len(),
+            num_slice_groups_minus1,
+            width,
+            size,
+            ids.as_mut_ptr(),
+            ids.len(),
+            &mut g.answer,
+            &mut g.group,
+            &mut g.runs,
+            &mut g.rects,
+        )
+    };
+    g
 }

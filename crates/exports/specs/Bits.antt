@@ -3,6 +3,7 @@ use Prim.Native.Nat.{ℕ}
 use mathlib.Core.Path.{_≡_}
 use mathlib.Core.Bool.{Bool, cond}
 use mathlib.Core.List.{List, [], _∷_}
+use mathlib.Core.Option.{Option}
 use lib.IntN.{ℤ, pos}
 use Rattle.desk.specs.Numbers.{done}
 use Rattle.bits.specs.declared.BitPos.{BitPos}
@@ -88,6 +89,9 @@ FrontsSigned s a value′ = Fronts (λ (r : Signed). ReadsSigned s r a × (value
 
 abbrev pub FrontsMore : Told Bool → List ℕ → Type 0
 FrontsMore a = Fronts (λ (r : More). moreAnswer r ≡ a) moreNumbers
+
+abbrev pub FrontsAligned : Option ℕ → List ℕ → Type 0
+FrontsAligned a = Fronts (λ (r : Aligned). alignedAnswer r ≡ a) alignedNumbers
 
 -- ---- writing: the number, and the writer: bytes written, pending bits as a number, and their count
 

@@ -3,3 +3,4 @@ pub mod Fronts
 pub mod Escaping
 pub mod Framing
 pub mod Bits
+pub mod Groups

@@ -2,6 +2,7 @@
 // A state comes in as numbers; the answer goes out as numbers, in an array that the caller lends. Nothing is asked of the caller.
 pub mod escaping;
 pub mod framing;
+pub mod groups;
 mod numbers;
 pub mod reading;
 pub mod writing;

@@ -2,11 +2,12 @@
 ghost use mathlib.Core.Path.{_≡_};
 ghost use Prim.Native.Nat.{_%_};
 ghost use lib.Dec.{eqb};
-ghost use Rattle.bits.specs.Answer.{readBits, readBit, readUe, readSe, skipped, hasMore, finishRbsp, finishSei};
-ghost use Rattle.exports.specs.Bits.{readerAt, bitsNumbers, bitNumbers, movedNumbers, signedNumbers, signedValue, moreNumbers, FrontsBits, FrontsBit, FrontsMoved, FrontsSigned, FrontsMore};
+ghost use Rattle.bits.specs.Answer.{readBits, readBit, readUe, readSe, skipped, hasMore, finishRbsp, finishSei, wholeBytes};
+ghost use Rattle.exports.specs.Bits.{readerAt, bitsNumbers, bitNumbers, movedNumbers, signedNumbers, signedValue, moreNumbers, alignedNumbers, FrontsAligned, FrontsBits, FrontsBit, FrontsMoved, FrontsSigned, FrontsMore};
 use super::numbers::flag;
 use super::numbers::wide;
 use super::numbers::wide_u32;
+use bits::Aligned;
 use bits::Bit;
 use bits::BitPos;
 use bits::BitReader;
@@ -15,7 +16,7 @@ use bits::More;
 use bits::Moved;
 use bits::Signed;
 
-fn bits_numbers(r: Bits) -> [u64; 3]
+pub fn bits_numbers(r: Bits) -> [u64; 3]
     ensures { λ a. ⌜ a ≡ bitsNumbers r ⌝ }
 {
     match r {
@@ -156,4 +157,22 @@ pub extern "C" fn dampfeather_byte_aligned(at: usize) -> bool
 {
     let reader = BitReader { at: BitPos(at) };
     reader.byte_aligned()
+}
+
+fn aligned_numbers(r: Aligned) -> [u64; 2]
+    ensures { λ a. ⌜ a ≡ alignedNumbers r ⌝ }
+{
+    match r {
+        Aligned::At(b) => [1, b.0 as u64],
+        Aligned::Within => [0, 0],
+    }
+}
+
+// BitPos::byte. The answer: 1 where a byte starts there, and its place.
+#[no_mangle]
+pub extern "C" fn dampfeather_byte_of(at: usize, answer: &mut [u64; 2])
+    ensures { λ _. ⌜ FrontsAligned (wholeBytes at) (now (answer .exit)) ⌝ }
+{
+    let r = BitPos(at).byte();
+    *answer = aligned_numbers(r);
 }

@@ -1,5 +1,6 @@
 // Writing bits: the calls of `bits`. A writer is the count of bytes written, the pending bits as a number, and their count.
 ghost use mathlib.Core.Path.{_≡_};
+ghost use lib.Dec.{eqb};
 ghost use Rattle.bits.specs.Answer.{writeBits, writeBit, writeUe, writeSe, writeTrailing, mapped};
 ghost use Rattle.exports.specs.Bits.{writerAt, putState, putNumbers, FrontsPut, mappedValue, mappedNumber, FrontsMapped};
 use super::numbers::wide;
@@ -132,6 +133,19 @@ pub extern "C" fn dampfeather_write_rbsp_trailing_bits(
     };
     let r = writer.write_rbsp_trailing_bits(out);
     *answer = put_numbers(r);
+}
+
+// BitWriter::byte_aligned.
+#[no_mangle]
+pub extern "C" fn dampfeather_writer_byte_aligned(written: usize, pending: u8, count: u8) -> bool
+    ensures { λ r. ⌜ r ≡ eqb count 0 ⌝ }
+{
+    let writer = BitWriter {
+        written: BytePos(written),
+        pending,
+        count,
+    };
+    writer.byte_aligned()
 }
 
 fn mapped_number(r: Mapped) -> u8
