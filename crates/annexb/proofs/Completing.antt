@@ -1,5 +1,5 @@
 -- A reset, by the rule: it completes what is open, or refuses and changes nothing.
-use Prim.Native.Nat.{ℕ, _+_, _≤_}
+use Prim.Native.Nat.{ℕ, _+_}
 use native.Mathlib.Nat.{zero-add}
 use native.Mathlib.Omega.{arith}
 use lib.Dec.{leb, eqb}
@@ -9,11 +9,11 @@ use mathlib.Core.List.{List, [], _∷_, _++_, append-assoc, append-nil}
 use lib.ListN.{length, replicate, length-append, length-replicate}
 use borrow.Author.Tests.{eqb-false}
 use Rattle.desk.specs.Search.{trail, shown}
-use Rattle.desk.specs.Push.{Answer, answers, shifted}
+use Rattle.desk.specs.Push.{Answer, answers}
 use Rattle.desk.proofs.Search.{shown-held}
 use Rattle.desk.proofs.Choice.{cond-by}
 use Rattle.annexb.specs.declared.AnnexBReader.{AnnexBReader}
-use Rattle.annexb.specs.Rule.{Frame, joined, endsFrom, givenOf, endsOf, unitsOf}
+use Rattle.annexb.specs.Rule.{Frame, joined, endsFrom}
 use Rattle.annexb.specs.Seen.{at, new, stateIn}
 use Rattle.annexb.specs.Answer.{entering, closing, resetAnswer}
 use Rattle.annexb.specs.Calls.{Completes}

@@ -49,7 +49,7 @@ next-byte stream n k t h = getD-take k (drop n stream) t 0 (omega (arith, length
 entered : (s : ParseState) (chunk : List ℕ) (w m e : ℕ) → e ≤ 2 → pushOf next e s chunk w m .number ≡ 7 → e ≡ 0
 entered s chunk w m zero h z = refl
 entered s chunk w m (suc e) h z =
-    let q : suc e ≡ 7 = sym (ap (λ (a : Answer ParseState). a .number) (push-refused next e s chunk w m)) ∙ z in
+    let q : suc e ≡ 7 = sym (ap (λ (a : Answer ParseState). a .number) (push-refused next (suc e) s chunk w m (λ f. let x : ⊥ = omega arith in x))) ∙ z in
     let x : ⊥ = omega arith in absurd x
 
 -- A 7'S INDEX IS THE LAST BYTE OF THE FIRST WINDOW THAT BREAKS THE PROHIBITION

@@ -1,11 +1,11 @@
 use denote.Ref.{now}
-use Rattle.listing.proofs.Taking.{listed}
+use Rattle.lister.proofs.Taking.{listed}
 use native.Mathlib.Omega.{arith}
-use Rattle.annexb.proofs.Calling.{marks-fit}
+use Rattle.desk.proofs.Cutting.{gave-marks-fit}
 use Rattle.counting.proofs.Gaps.{tallied-long}
 use borrow.Author.Needs.{needs}
-use Rattle.listing.proofs.list_some.Statement.{statement}
-use Rattle.listing.proofs.list_some.Tie as tie
+use Rattle.lister.proofs.list_some.Statement.{statement}
+use Rattle.lister.proofs.list_some.Tie as tie
 
 push-requires : tie.Need-push-requires
 push-requires c κs = search needs
@@ -18,7 +18,7 @@ unit-lines-requires c κs =
     let t = c .before .before .before .before in
     let p = t .before .before .before .before .before .before in
     let s = p .before .before .before .before .before .before .before .before .before .before in
-    (s .pre .1 .waiting, s .pre .1 .a-line, omega (arith, tallied-long (t .tally2 .ensures), marks-fit (p .push .ensures)))
+    (s .pre .1 .waiting, s .pre .1 .a-line, omega (arith, tallied-long (t .tally2 .ensures), gave-marks-fit (p .push .ensures)))
 
 same-length : tie.Need-same-length
 same-length c = search needs

@@ -1,8 +1,8 @@
 -- One push of a piece of the input.
-use Prim.Native.Nat.{ℕ, _≤_, _<_}
+use Prim.Native.Nat.{ℕ, _≤_}
 use native.Mathlib.Nat.{not-suc-le-zero}
 use native.Mathlib.Omega.{arith}
-use mathlib.Core.Path.{_≡_, subst⁻¹}
+use mathlib.Core.Path.{_≡_}
 use mathlib.Core.List.{List, [], _∷_}
 use lib.Dec.{ltb}
 use lib.ListN.{length}
@@ -13,7 +13,7 @@ use Rattle.annexb.specs.declared.Pushed.{Pushed}
 use Rattle.annexb.specs.Answer.{entering, pushAnswer, Gave}
 use Rattle.annexb.proofs.Laws.{push-takes-longest, push-takes-one}
 use Rattle.annexb.proofs.Calling.{push-few}
-use Rattle.listing.specs.Ready.{Ready, Listed}
+use Rattle.lister.specs.Ready.{Ready, Listed}
 
 passes : (s : AnnexBReader) {filled chunk room marks text : ℕ} → Ready (s .zeros) filled chunk room marks text → entering s chunk room marks ≡ 0
 passes s {filled} {chunk} {room} {marks} g = entry-done (chunk ∷ room ∷ marks ∷ []) (ltb 2 (s .zeros)) (g .chunk-few, (g .room-few, (g .marks-few, tt))) (le-ltb 2 (s .zeros) (g .good))

@@ -6,8 +6,8 @@ use Prim.Native.Nat.{_≤_}
 use mathlib.Core.Path.{_≡_}
 use lib.ListN.{length}
 use borrow.Author.Needs.{needs}
-use Rattle.listing.proofs.list_all.Statement.{statement}
-use Rattle.listing.proofs.list_all.Tie as tie
+use Rattle.lister.proofs.list_all.Statement.{statement}
+use Rattle.lister.proofs.list_all.Tie as tie
 
 abbrev Inv-loop : tie.InvT-loop
 Inv-loop chunk₀ room₀ marks₀ text₀ progress₀ turns₀ chunk room marks text progress turns = (length chunk ≡ length chunk₀) × (length room ≡ length room₀) × (length marks ≡ length marks₀) × (length text ≡ length text₀) × (progress .reader .zeros ≤ 2) × (progress .out .filled ≤ length text)

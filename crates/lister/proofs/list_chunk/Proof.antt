@@ -1,10 +1,9 @@
 use Prim.Native.Nat.{_-_, _≤_}
-use native.Mathlib.Omega.{arith}
-use mathlib.Core.Path.{_≡_, refl}
+use mathlib.Core.Path.{_≡_}
 use lib.ListN.{length}
 use borrow.Author.Needs.{needs}
-use Rattle.listing.proofs.list_chunk.Statement.{statement}
-use Rattle.listing.proofs.list_chunk.Tie as tie
+use Rattle.lister.proofs.list_chunk.Statement.{statement}
+use Rattle.lister.proofs.list_chunk.Tie as tie
 
 abbrev Inv-loop : tie.InvT-loop
 Inv-loop chunk room₀ marks₀ text₀ progress₀ at₀ room marks text progress at = (at ≤ length chunk) × (length room ≡ length room₀) × (length marks ≡ length marks₀) × (length text ≡ length text₀) × (progress .reader .zeros ≤ 2) × (progress .out .filled ≤ length text)

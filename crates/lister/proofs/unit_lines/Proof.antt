@@ -1,10 +1,9 @@
 use Prim.Native.Nat.{_-_, _≤_}
-use native.Mathlib.Omega.{arith}
-use mathlib.Core.Path.{_≡_, refl}
+use mathlib.Core.Path.{_≡_}
 use lib.ListN.{length}
 use borrow.Author.Needs.{needs}
-use Rattle.listing.proofs.unit_lines.Statement.{statement}
-use Rattle.listing.proofs.unit_lines.Tie as tie
+use Rattle.lister.proofs.unit_lines.Statement.{statement}
+use Rattle.lister.proofs.unit_lines.Tie as tie
 
 abbrev Inv-loop : tie.InvT-loop
 Inv-loop text₀ lengths count first o₀ index₀ i₀ text o index i = (i ≤ count) × (length text ≡ length text₀) × (o .filled ≤ length text)

@@ -1,8 +1,8 @@
 use native.Mathlib.Omega.{arith}
-use Rattle.listing.proofs.Digits.{few-digits}
+use Rattle.lister.proofs.Digits.{few-digits}
 use borrow.Author.Needs.{needs}
-use Rattle.listing.proofs.put_decimal.Statement.{statement}
-use Rattle.listing.proofs.put_decimal.Tie as tie
+use Rattle.lister.proofs.put_decimal.Statement.{statement}
+use Rattle.lister.proofs.put_decimal.Tie as tie
 
 decimal-requires : tie.Need-decimal-requires
 decimal-requires c κs = search needs

@@ -1,9 +1,9 @@
 use native.Mathlib.Omega.{arith}
-use Rattle.annexb.proofs.Calling.{marks-fit}
+use Rattle.desk.proofs.Cutting.{gave-marks-fit}
 use Rattle.counting.proofs.Gaps.{tallied-long}
 use borrow.Author.Needs.{needs}
-use Rattle.listing.proofs.finish.Statement.{statement}
-use Rattle.listing.proofs.finish.Tie as tie
+use Rattle.lister.proofs.finish.Statement.{statement}
+use Rattle.lister.proofs.finish.Tie as tie
 
 reset-requires : tie.Need-reset-requires
 reset-requires c κs = search needs
@@ -16,7 +16,7 @@ unit-lines-requires c κs =
     let t = c .before .before .before .before in
     let p = t .before .before .before .before .before .before in
     let s = p .before .before .before .before .before .before .before .before .before in
-    (s .pre .0, s .pre .1, omega (arith, tallied-long (t .tally2 .ensures), marks-fit (p .reset .ensures)))
+    (s .pre .0, s .pre .1, omega (arith, tallied-long (t .tally2 .ensures), gave-marks-fit (p .reset .ensures)))
 
 total-line-requires : tie.Need-total-line-requires
 total-line-requires c κs = search needs

@@ -1,18 +1,13 @@
 -- A rule goes on from any history as the rule of the state reached there. For every reader and writer whose step gives its rule.
-use Prim.Native.Nat.{ℕ, _+_}
-use native.Mathlib.Nat.{zero-add}
-use mathlib.Core.Path.{_≡_, refl, ap, ap₂, sym, _∙_, subst}
-use mathlib.Core.Bool.{Bool, true, false, false≢true}
-use mathlib.Core.List.{List, [], _∷_, _++_, append-assoc, append-nil, map}
+use Prim.Native.Nat.{ℕ}
+use mathlib.Core.Path.{_≡_, refl, ap, sym, _∙_, subst}
+use mathlib.Core.Bool.{true, false, false≢true}
+use mathlib.Core.List.{List, [], _∷_, _++_, append-assoc, append-nil}
 use mathlib.Core.Option.{Option, none, some}
 use lib.ListN.{length}
 use lib.Seq.{append-snoc}
 use Rattle.desk.specs.Push.{Out, Next, Answer, answers, took, shifted, Seen, seen, Follows, acceptsBy, accepts}
-use Rattle.desk.proofs.Cutting.{Since, since-none, since-more}
-
-pub shifted-none : (l : List ℕ) → shifted 0 l ≡ l
-shifted-none [] = refl
-shifted-none (x ∷ l) = ap₂ {C = List ℕ} _∷_ (zero-add x) (shifted-none l)
+use Rattle.desk.proofs.Cutting.{Since, since-none, since-more, shifted-none}
 
 module _ {S : Type 0} {next : Next S} {s₀ : S} {rule rule′ : List ℕ → Seen S} (f : Follows next s₀ rule) (h : List ℕ) (g : Follows next (rule h .state) rule′) where
   -- one answer that tells what both rules give for the bytes t

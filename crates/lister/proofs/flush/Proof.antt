@@ -2,8 +2,8 @@ use mathlib.Core.Path.{sym}
 use denote.Ref.{now}
 use lib.Seq.{length-take-le}
 use borrow.Author.Needs.{needs}
-use Rattle.listing.proofs.flush.Statement.{statement}
-use Rattle.listing.proofs.flush.Tie as tie
+use Rattle.lister.proofs.flush.Statement.{statement}
+use Rattle.lister.proofs.flush.Tie as tie
 
 returns : tie.Need-returns
 returns c = search needs
