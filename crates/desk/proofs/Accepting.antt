@@ -10,7 +10,7 @@ use mathlib.Core.Option.{Option, none, some}
 use lib.ListN.{length, take, drop, getD, length-append, length-take}
 use lib.Seq.{append-snoc, take-suc}
 use borrow.Author.Tests.{ltb-true, ltb-false}
-use Rattle.desk.specs.Push.{Out, Next, Answer, marked, pushOf, Gives, Pushes, Seen, Follows, acceptsBy, accepts, Fits, Longest}
+use Rattle.desk.specs.Push.{Out, Next, Answer, marked, pushOf, Pushes, Seen, Follows, acceptsBy, accepts, Longest}
 use Rattle.desk.proofs.Cutting.{taken-front, pushed-few, pushed-since, pushes-cut}
 use Rattle.desk.proofs.Taking.{push-refused, push-longest}
 

@@ -1,17 +1,15 @@
 -- However a stream is cut into pushes, what is handed out is what the rule gives for the bytes taken. For every reader and writer whose step gives its rule.
-use Prim.Native.Nat.{ℕ, zero, suc, _+_, _-_, _≤_, _<_, zero-le, min}
+use Prim.Native.Nat.{ℕ, suc, _+_, _-_, _≤_, zero-le, min}
 use native.Mathlib.Omega.{arith}
-use native.Mathlib.Nat.{add-zero, zero-add, le-refl, le-trans, le-add-right}
-use lib.Dec.{leb, eqb}
+use native.Mathlib.Nat.{add-zero, zero-add}
+use lib.Dec.{eqb}
 use mathlib.Core.Path.{_≡_, refl, ap, ap₂, sym, _∙_, subst, subst⁻¹}
-use mathlib.Core.Bool.{Bool, true, false, cond, _&&_}
-use mathlib.Core.List.{List, [], _∷_, _++_, append-assoc, append-nil, map, map-append}
+use mathlib.Core.Bool.{Bool, true, false, cond}
+use mathlib.Core.List.{List, [], _∷_, _++_, append-assoc, append-nil, map-append}
 use mathlib.Core.Option.{Option, none, some}
-use lib.ListN.{length, take, drop, length-append, length-drop, length-take, length-map}
-use lib.Seq.{append-snoc, take-take, take-add, take-at, take-length}
-use borrow.Author.Tests.{le-leb}
-use Rattle.desk.specs.Room.{written}
-use Rattle.desk.specs.Push.{Out, Next, Answer, answers, marked, took, fits, forbidden, run, pushOf, Gives, shifted, Pushes, Seen, seen, seenAfter, Follows, Cut}
+use lib.ListN.{length, take, drop, length-append, length-drop, length-take}
+use lib.Seq.{append-snoc, take-take, take-add}
+use Rattle.desk.specs.Push.{Out, Next, Answer, answers, marked, took, fits, run, pushOf, Gives, shifted, Pushes, Seen, seen, Follows, Cut}
 use Rattle.desk.proofs.Choice.{cond-by}
 use Rattle.desk.proofs.Room.{front, written-at-least}
 use Rattle.desk.proofs.Pushing.{run-ends, run-takes, run-stops, run-forbidden}

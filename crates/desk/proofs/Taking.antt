@@ -1,16 +1,16 @@
 -- A push takes the longest front that it may: up to a forbidden byte, or to the first byte whose releases do not fit.
 use Prim.Native.Nat.{ℕ, zero, suc, _+_, _-_, _≤_, _<_, zero-le}
 use native.Mathlib.Omega.{arith}
-use native.Mathlib.Nat.{add-zero, zero-add, le-refl, le-trans, le-of-eq, not-suc-le-zero}
+use native.Mathlib.Nat.{add-zero, le-refl, le-of-eq, not-suc-le-zero}
 use lib.Dec.{leb}
 use mathlib.Core.Path.{_≡_, refl, ap, ap₂, sym, _∙_, subst, subst⁻¹}
-use mathlib.Core.Bool.{Bool, true, false, cond, _&&_, false≢true}
-use mathlib.Core.List.{List, [], _∷_, _++_, append-assoc, append-nil, map}
+use mathlib.Core.Bool.{Bool, true, false, _&&_, false≢true}
+use mathlib.Core.List.{List, [], _∷_, _++_, append-nil}
 use mathlib.Core.Option.{Option, none, some}
-use lib.ListN.{length, take, drop, getD, length-append, length-map}
+use lib.ListN.{length, take, getD, length-append, length-map}
 use lib.Seq.{append-snoc, take-length}
 use borrow.Author.Tests.{le-leb, leb-true, ne-eqb}
-use Rattle.desk.specs.Push.{Out, Next, Answer, answers, marked, took, fits, forbidden, run, pushOf, Gives, shifted, Seen, seen, seenAfter, Follows, acceptsBy, accepts, Fits, Longest, WholePush}
+use Rattle.desk.specs.Push.{Out, Next, Answer, answers, marked, took, fits, forbidden, run, pushOf, shifted, Seen, seen, Follows, acceptsBy, accepts, Fits, Longest, WholePush}
 use Rattle.desk.proofs.Choice.{and-left, and-right}
 use Rattle.desk.proofs.Pushing.{run-ends, run-takes, run-stops, run-forbidden}
 use Rattle.desk.proofs.Cutting.{Since, since-none, since-more, pushed-since, shifted-none}

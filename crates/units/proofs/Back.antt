@@ -1,28 +1,23 @@
 -- What is written behind start codes comes back unit for unit.
 use Prim.Native.Nat.{ℕ, zero, suc, _+_, _-_, zero-le}
 use native.Mathlib.Omega.{arith}
-use mathlib.Core.Path.{_≡_, refl, ap, ap₂, sym, _∙_, subst}
-use mathlib.Core.Bool.{Bool, true, false, cond, _&&_, and-false}
-use mathlib.Core.List.{List, [], _∷_, _++_, append-nil, append-assoc, map}
-use mathlib.Core.Option.{Option, none, some}
-use lib.ListN.{length, take, drop, length-append, length-map}
+use mathlib.Core.Path.{_≡_, refl, ap, ap₂, sym, _∙_}
+use mathlib.Core.Bool.{Bool, true, false, _&&_}
+use mathlib.Core.List.{List, [], _∷_, _++_, append-nil, map}
+use mathlib.Core.Option.{none}
+use lib.ListN.{length, take, drop, length-map}
 use lib.Seq.{take-length, take-at, drop-at}
 use Rattle.desk.specs.Push.{Seen, seen, shifted}
-use Rattle.desk.specs.Search.{is0, upTo1, upTo2, stands, next, first, trail, zerosAfter}
+use Rattle.desk.specs.Search.{is0, upTo1, upTo2, stands, first, trail}
 use Rattle.desk.proofs.Bytes.{not-0}
 use Rattle.desk.proofs.Cutting.{gave-bytes, gave-marks}
-use Rattle.desk.proofs.Lists.{snoc-ind}
-use Rattle.desk.proofs.Search.{trail-more}
-use Rattle.rbsp.specs.Rule.{escape, unescape, Legal}
-use Rattle.rbsp.specs.Promise.{Reads}
-use Rattle.rbsp.specs.Step.{stuffs}
-use Rattle.rbsp.specs.declared.reader.ParseState.{ParseState}
+use Rattle.rbsp.specs.Rule.{escape, unescape}
 use Rattle.rbsp.proofs.Escaping.{escape-trail}
 use Rattle.rbsp.proofs.Traces.{reading, writing}
 use Rattle.annexb.specs.Answer.{resetAnswer}
-use Rattle.annexb.specs.Rule.{Frame, frame, givenOf, endsOf, unitsOf, unitsAtReset, joined, endsFrom}
-use Rattle.annexb.specs.Seen.{new, stateIn, seenIn}
-use Rattle.annexb.specs.Syntax.{ByteStreamNalUnit, allBytes, byteStream, Allowed, AllAllowed, NoneJoin, nalUnits}
+use Rattle.annexb.specs.Rule.{frame, givenOf, endsOf, unitsAtReset, joined, endsFrom}
+use Rattle.annexb.specs.Seen.{stateIn, seenIn}
+use Rattle.annexb.specs.Syntax.{ByteStreamNalUnit, byteStream, Allowed, AllAllowed, NoneJoin, nalUnits}
 use Rattle.annexb.specs.declared.AnnexBReader.{AnnexBReader}
 use Rattle.annexb.proofs.Completing.{reset-completes}
 use Rattle.annexb.proofs.Laws.{pushes-rule}
