@@ -15,7 +15,7 @@ use Rattle.annexb.proofs.Laws.{push-takes-longest, push-takes-one}
 use Rattle.annexb.proofs.Calling.{push-few}
 use Rattle.lister.specs.Ready.{Ready, Listed}
 
-passes : (s : AnnexBReader) {filled chunk room marks text : ℕ} → Ready (s .zeros) filled chunk room marks text → entering s chunk room marks ≡ 0
+pub passes : (s : AnnexBReader) {filled chunk room marks text : ℕ} → Ready (s .zeros) filled chunk room marks text → entering s chunk room marks ≡ 0
 passes s {filled} {chunk} {room} {marks} g = entry-done (chunk ∷ room ∷ marks ∷ []) (ltb 2 (s .zeros)) (g .chunk-few, (g .room-few, (g .marks-few, tt))) (le-ltb 2 (s .zeros) (g .good))
 
 taken-one : (s : AnnexBReader) (chunk : List ℕ) (room marks filled text : ℕ) → 1 ≤ length chunk → Ready (s .zeros) filled (length chunk) room marks text → 1 ≤ pushAnswer s chunk room marks .taken

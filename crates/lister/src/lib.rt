@@ -2,8 +2,8 @@
 // Memory is constant whatever the stream's length. Lengths and counts are u64: a stream of 2^64 bytes is out of reach.
 ghost use mathlib.Core.Path.{_≡_};
 ghost use Prim.Native.Nat.{_+_, _≤_};
-ghost use lib.ListN.{length};
-ghost use Rattle.lister.specs.Ready.{Ready, Listed};
+ghost use lib.ListN.{length, take};
+ghost use Rattle.lister.specs.Ready.{Ready, Listed, Carried, Total};
 use annexb::AnnexBReader;
 use counting::Tally;
 use libc::STDERR_FILENO;
@@ -20,6 +20,12 @@ struct Out {
 struct Progress {
     reader: AnnexBReader,
     tally: Tally,
+    out: Out,
+}
+
+// The total that was told.
+struct Finished {
+    units: u64,
     out: Out,
 }
 
@@ -141,7 +147,7 @@ fn list_some(
     text: &mut [u8],
 ) -> Piece
     requires { ⌜ (1 ≤ length (now chunk)) × Ready (p .reader .zeros) (p .out .filled) (length (now chunk)) (length (now room)) (length (now marks)) (length (now text)) ⌝ }
-    ensures { λ r. ⌜ Listed (r .progress .reader .zeros) (r .progress .out .filled) (r .taken) (length (now (chunk .entry))) (length (now (text .exit))) ⌝ }
+    ensures { λ r. ⌜ Listed (r .progress .reader .zeros) (r .progress .out .filled) (r .taken) (length (now (chunk .entry))) (length (now (text .exit))) × Carried (p .reader) (p .tally) (take (r .taken) (now (chunk .entry))) (r .progress .reader) (r .progress .tally) ⌝ }
 {
     let before = p.reader;
     let tally = p.tally;
@@ -170,7 +176,7 @@ fn list_chunk(
     text: &mut [u8],
 ) -> Progress
     requires { ⌜ Ready (p .reader .zeros) (p .out .filled) (length (now chunk)) (length (now room)) (length (now marks)) (length (now text)) ⌝ }
-    ensures { λ r. ⌜ (r .reader .zeros ≤ 2) × (r .out .filled ≤ length (now (text .exit))) ⌝ }
+    ensures { λ r. ⌜ (r .reader .zeros ≤ 2) × (r .out .filled ≤ length (now (text .exit))) × Carried (p .reader) (p .tally) (now (chunk .entry)) (r .reader) (r .tally) ⌝ }
 {
     let mut progress = p;
     let mut at: usize = 0;
@@ -182,19 +188,23 @@ fn list_chunk(
     progress
 }
 
-// The end of the input: a reset ends the open unit.
-fn finish(p: Progress, room: &mut [u8], marks: &mut [u64], text: &mut [u8]) -> Out
-    requires { ⌜ (p .out .filled ≤ length (now text)) × (64 ≤ length (now text)) ⌝ }
+// The end of the input: a reset ends the open unit, and the total is told.
+fn finish(p: Progress, room: &mut [u8], marks: &mut [u64], text: &mut [u8]) -> Finished
+    requires { ⌜ Ready (p .reader .zeros) (p .out .filled) 0 (length (now room)) (length (now marks)) (length (now text)) ⌝ }
+    ensures { λ r. ⌜ Total (p .reader) (p .tally) (r .units) ⌝ }
 {
     let reader = p.reader;
     let tally = p.tally;
     let out = p.out;
     let r = reader.reset(room, marks);
     let marked = r.marked;
-    let first = tally.units;
     let all = tally.tally(marks, marked, r.written);
-    let o = unit_lines(out, text, marks, marked, first);
-    total_line(o, text, all.units)
+    let told = unit_lines(out, text, marks, marked, tally.units);
+    let last = total_line(told, text, all.units);
+    Finished {
+        units: all.units,
+        out: last,
+    }
 }
 
 const MORE: u8 = 0;
@@ -243,6 +253,17 @@ fn read_once(
     }
 }
 
+fn last_turn(p: Progress, room: &mut [u8], marks: &mut [u64], text: &mut [u8]) -> u8
+    requires { ⌜ Ready (p .reader .zeros) (p .out .filled) 0 (length (now room)) (length (now marks)) (length (now text)) ⌝ }
+{
+    let finished = finish(p, room, marks, text);
+    let out = finished.out;
+    if out.well {
+        return END;
+    }
+    WRITE_FAILED
+}
+
 // Lists the whole input. Where a read fails the lines so far go out, and no total. Nothing says that an input ends, so turns are counted down: none
 // reaches 2^64 of them.
 fn list_all(chunk: &mut [u8], room: &mut [u8], marks: &mut [u64], text: &mut [u8]) -> u8
@@ -261,8 +282,7 @@ fn list_all(chunk: &mut [u8], room: &mut [u8], marks: &mut [u64], text: &mut [u8
         let t = read_once(progress, chunk, room, marks, text);
         progress = t.progress;
         if t.came_to == END {
-            let o = finish(progress, room, marks, text);
-            return if o.well { END } else { WRITE_FAILED };
+            return last_turn(progress, room, marks, text);
         }
         if t.came_to == READ_FAILED {
             flush(progress.out, text);

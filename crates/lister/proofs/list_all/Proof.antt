@@ -1,10 +1,8 @@
+use Prim.Native.Nat.{_≤_, zero-le}
 use native.Mathlib.Omega.{arith}
-use mathlib.Core.Path.{refl, subst⁻¹}
-use Prim.Native.Nat.{zero-le}
-use Rattle.annexb.specs.declared.AnnexBReader.{AnnexBReader}
-use Prim.Native.Nat.{_≤_}
-use mathlib.Core.Path.{_≡_}
+use mathlib.Core.Path.{_≡_, refl, subst⁻¹}
 use lib.ListN.{length}
+use Rattle.annexb.specs.declared.AnnexBReader.{AnnexBReader}
 use borrow.Author.Needs.{needs}
 use Rattle.lister.proofs.list_all.Statement.{statement}
 use Rattle.lister.proofs.list_all.Tie as tie
@@ -27,12 +25,23 @@ loop-holds c = (refl, refl, refl, refl, subst⁻¹ (λ (r : AnnexBReader). r .ze
 read-once-requires : tie.Need-read-once-requires Inv-loop μ-loop
 read-once-requires c κs = search needs
 
-finish-requires : tie.Need-finish-requires Inv-loop μ-loop
-finish-requires c κs =
-    let r = c .before .before .before .before .before .before .before .before .before .before .before .before .before .before in
+last-turn-requires : tie.Need-last-turn-requires Inv-loop μ-loop
+last-turn-requires c κs =
+    let m = c .before .before .before .before .before .before .before .before .before in
+    let w = m .before .before in
+    let r = w .before .before .before in
     let l = r .before .before .before .before .before .before in
     let s = l .before .before .before .before .before .before .before in
-    (r .read-once .ensures .1, omega (arith, l .loop .inv, s .pre .a-line, c .before .before .before .before .before .before .before .text .given))
+    record {
+      good = r .read-once .ensures .0;
+      waiting = r .read-once .ensures .1;
+      a-line = omega (arith, l .loop .inv, s .pre .a-line, c .before .before .before .before .before .before .before .text .given);
+      chunk-few = zero-le;
+      room-3 = omega (arith, l .loop .inv, s .pre .room-3, w .room .given);
+      room-few = omega (arith, l .loop .inv, s .pre .room-few, w .room .given);
+      marks-1 = omega (arith, l .loop .inv, s .pre .marks-1, m .marks .given);
+      marks-few = omega (arith, l .loop .inv, s .pre .marks-few, m .marks .given);
+    }
 
 same-length : tie.Need-same-length Inv-loop μ-loop
 same-length c = search needs
@@ -49,6 +58,9 @@ same-length-4 c = search needs
 returns : tie.Need-returns Inv-loop μ-loop
 returns c = search needs
 
+flush-requires : tie.Need-flush-requires Inv-loop μ-loop
+flush-requires c κs = search needs
+
 same-length-5 : tie.Need-same-length-5 Inv-loop μ-loop
 same-length-5 c = search needs
 
@@ -63,9 +75,6 @@ same-length-8 c = search needs
 
 returns-2 : tie.Need-returns-2 Inv-loop μ-loop
 returns-2 c = search needs
-
-flush-requires : tie.Need-flush-requires Inv-loop μ-loop
-flush-requires c κs = search needs
 
 same-length-9 : tie.Need-same-length-9 Inv-loop μ-loop
 same-length-9 c = search needs
@@ -82,6 +91,15 @@ same-length-12 c = search needs
 returns-3 : tie.Need-returns-3 Inv-loop μ-loop
 returns-3 c = search needs
 
+sub-turns : tie.Need-sub-turns Inv-loop μ-loop
+sub-turns c = search needs
+
+loop-less : tie.Need-loop-less Inv-loop μ-loop
+loop-less c = search needs
+
+loop-again : tie.Need-loop-again Inv-loop μ-loop
+loop-again c = search needs
+
 same-length-13 : tie.Need-same-length-13 Inv-loop μ-loop
 same-length-13 c = search needs
 
@@ -97,30 +115,6 @@ same-length-16 c = search needs
 returns-4 : tie.Need-returns-4 Inv-loop μ-loop
 returns-4 c = search needs
 
-sub-turns : tie.Need-sub-turns Inv-loop μ-loop
-sub-turns c = search needs
-
-loop-less : tie.Need-loop-less Inv-loop μ-loop
-loop-less c = search needs
-
-loop-again : tie.Need-loop-again Inv-loop μ-loop
-loop-again c = search needs
-
-same-length-17 : tie.Need-same-length-17 Inv-loop μ-loop
-same-length-17 c = search needs
-
-same-length-18 : tie.Need-same-length-18 Inv-loop μ-loop
-same-length-18 c = search needs
-
-same-length-19 : tie.Need-same-length-19 Inv-loop μ-loop
-same-length-19 c = search needs
-
-same-length-20 : tie.Need-same-length-20 Inv-loop μ-loop
-same-length-20 c = search needs
-
-returns-5 : tie.Need-returns-5 Inv-loop μ-loop
-returns-5 c = search needs
-
 pub list-all-spec : {M : Type 1} → statement M
 list-all-spec =
     tie.close
@@ -131,33 +125,28 @@ list-all-spec =
     new-requires-2
     loop-holds
     read-once-requires
-    finish-requires
+    last-turn-requires
     same-length
     same-length-2
     same-length-3
     same-length-4
     returns
+    flush-requires
     same-length-5
     same-length-6
     same-length-7
     same-length-8
     returns-2
-    flush-requires
     same-length-9
     same-length-10
     same-length-11
     same-length-12
     returns-3
+    sub-turns
+    loop-less
+    loop-again
     same-length-13
     same-length-14
     same-length-15
     same-length-16
-    returns-4
-    sub-turns
-    loop-less
-    loop-again
-    same-length-17
-    same-length-18
-    same-length-19
-    same-length-20
-    returns-5)
+    returns-4)

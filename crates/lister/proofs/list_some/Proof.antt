@@ -1,4 +1,5 @@
 use denote.Ref.{now}
+use Rattle.lister.proofs.Carrying.{carried-push}
 use Rattle.lister.proofs.Taking.{listed}
 use native.Mathlib.Omega.{arith}
 use Rattle.desk.proofs.Cutting.{gave-marks-fit}
@@ -31,9 +32,12 @@ same-length-3 c = search needs
 
 returns : tie.Need-returns
 returns c =
-    let p = c .before .before .before .before .before .before .before .before .before .before .before .before .before .before in
-    let s = p .before .before .before .before .before .before .before .before .before .before in
-    listed (s .args .p .reader) (now (s .args .chunk)) (now (s .args .room)) (now (s .args .marks)) (s .pre .0) (s .pre .1) (p .push .ensures) (c .before .before .before .unit-lines .ensures)
+    let t = c .before .before .before .before .before .before .before .before in
+    let p = t .before .before .before .before .before .before in
+    let s = p .before .before .before .before .before .before .before .before .before .before in (
+      listed (s .args .p .reader) (now (s .args .chunk)) (now (s .args .room)) (now (s .args .marks)) (s .pre .0) (s .pre .1) (p .push .ensures) (c .before .before .before .unit-lines .ensures),
+      carried-push (s .args .p .reader) (s .args .p .tally) (now (s .args .chunk)) (now (s .args .room)) (now (s .args .marks)) _ _ _ _ _ (p .push .ensures) (t .tally2 .ensures),
+    )
 
 pub list-some-spec : {M : Type 1} → statement M
 list-some-spec =
