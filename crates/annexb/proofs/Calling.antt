@@ -5,29 +5,18 @@ use mathlib.Core.Path.{_≡_, refl, ap, ap₂, sym, _∙_, subst, subst⁻¹}
 use mathlib.Core.List.{List, [], _∷_, _++_, append-nil}
 use lib.ListN.{length, take, replicate}
 use lib.Seq.{take-length}
-use Rattle.desk.specs.Room.{written}
-use Rattle.desk.specs.Push.{Answer, answers, pushOf, Gives, Pushes, shifted, Seen, seen}
-use Rattle.desk.proofs.Room.{front, written-at-least}
+use Rattle.desk.specs.Push.{Answer, Pushes, shifted, Seen, seen}
+use Rattle.desk.proofs.Cutting.{gave-bytes, gave-marks, shifted-none}
+use Rattle.desk.proofs.Lists.{trail-few}
 use Rattle.annexb.specs.declared.AnnexBReader.{AnnexBReader}
 use Rattle.annexb.specs.declared.Pushed.{Pushed}
-use Rattle.annexb.specs.Rule.{frameFrom, frame, given, ends, joined, endsFrom, unitsAtReset}
+use Rattle.annexb.specs.Rule.{frameFrom, frame, given, ends}
 use Rattle.annexb.specs.Seen.{new, rule, stateOf}
 use Rattle.annexb.specs.Step.{stepping}
 use Rattle.annexb.specs.Answer.{entering, pushAnswer, resetAnswer, Gave}
-use Rattle.annexb.specs.Calls.{Span, Calls, Completes, Whole, AllWhole, ByTheRule}
-use Rattle.annexb.proofs.Restart.{shifted-none}
+use Rattle.annexb.specs.Calls.{Span, Calls, Completes, Whole, ByTheRule}
 use Rattle.annexb.proofs.Completing.{reset-kept, reset-completes}
-use Rattle.annexb.proofs.Laws.{pushes-rule, onward, trail-few}
-
--- what a call wrote, read off its rooms
-pub wrote-bytes : {a : Answer AnnexBReader} {room marks room′ marks′ : List ℕ} {r : Pushed} → Gave a room marks room′ marks′ r → take (r .written) room′ ≡ a .bytes
-wrote-bytes {a} {room} o = ap₂ take (o .wrote-is) (o .room) ∙ front room (a .bytes)
-
-pub wrote-marks : {a : Answer AnnexBReader} {room marks room′ marks′ : List ℕ} {r : Pushed} → Gave a room marks room′ marks′ r → take (r .marked) marks′ ≡ a .marks
-wrote-marks {a} {room} {marks} o = ap₂ take (o .marked-is) (o .mark-room) ∙ front marks (a .marks)
-
-pub marks-fit : {a : Answer AnnexBReader} {room marks room′ marks′ : List ℕ} {r : Pushed} → Gave a room marks room′ marks′ r → r .marked ≤ length marks′
-marks-fit {a} {room} {marks} o = rw (o .mark-room, o .marked-is) (written-at-least marks (a .marks))
+use Rattle.annexb.proofs.Laws.{pushes-rule, onward}
 
 -- one push, by the rule of the state it starts from
 pub push-rule : (s : AnnexBReader) (chunk room marks room′ marks′ : List ℕ) (r : Pushed) → s .zeros ≤ 2 → Gave (pushAnswer s chunk (length room) (length marks)) room marks room′ marks′ r
@@ -76,8 +65,8 @@ module _ {spans : List Span} {h : List ℕ} {s : AnnexBReader} {g e : List ℕ} 
         record {
           closed-spans = (
             record {
-              bytes-are = ap₂ _++_ (sym given-is) (wrote-bytes o) ∙ c .bytes-all;
-              ends-are = ap₂ _++_ (sym ends-are) (ap₂ shifted (ap length (sym given-is)) (wrote-marks o)) ∙ c .ends-all;
+              bytes-are = ap₂ _++_ (sym given-is) (gave-bytes o) ∙ c .bytes-all;
+              ends-are = ap₂ _++_ (sym ends-are) (ap₂ shifted (ap length (sym given-is)) (gave-marks o)) ∙ c .ends-all;
             },
             b .closed-spans,
           );
@@ -88,8 +77,8 @@ module _ {spans : List Span} {h : List ℕ} {s : AnnexBReader} {g e : List ℕ} 
     after-refusal z =
         let a = resetAnswer s (length room) (length marks) in
         let kept = reset-kept s (length room) (length marks) (λ k. z (o .number-is ∙ k)) in
-        let nb : take (r .written) room′ ≡ [] = wrote-bytes o ∙ ap (λ (x : Answer AnnexBReader). x .bytes) kept in
-        let nm : take (r .marked) marks′ ≡ [] = wrote-marks o ∙ ap (λ (x : Answer AnnexBReader). x .marks) kept in
+        let nb : take (r .written) room′ ≡ [] = gave-bytes o ∙ ap (λ (x : Answer AnnexBReader). x .bytes) kept in
+        let nm : take (r .marked) marks′ ≡ [] = gave-marks o ∙ ap (λ (x : Answer AnnexBReader). x .marks) kept in
         let st : r .state ≡ s = o .state-is ∙ ap (λ (x : Answer AnnexBReader). x .after) kept in
         record {
           closed-spans = b .closed-spans;

@@ -2,13 +2,13 @@
 use Prim.Native.Nat.{ℕ, zero, suc}
 use native.Mathlib.Omega.{arith}
 use mathlib.Core.Path.{_≡_, refl, ap, ap₂, sym, _∙_}
-use mathlib.Core.Bool.{Bool, true, false, cond, _&&_, and-true, and-false}
+use mathlib.Core.Bool.{Bool, true, false, _&&_, and-true, and-false}
 use mathlib.Core.List.{List, [], _∷_, _++_, append-assoc}
-use Rattle.desk.specs.Search.{is0, is1, upTo1, trail, two, oneMore, shown}
+use Rattle.desk.specs.Search.{trail, two, oneMore, shown}
 use Rattle.desk.proofs.Search.{trail-more}
 use Rattle.desk.proofs.Choice.{cond-by}
 use Rattle.annexb.specs.Rule.{Frame, unended, behind, frameFrom}
-use Rattle.annexb.proofs.Framing.{split, onByte, reopened, frame-more}
+use Rattle.annexb.proofs.Framing.{split, onByte, frame-more}
 
 two-full : (z : ℕ) → two z ≡ true → 2 ≡ oneMore z
 two-full zero e = absurd (let q : _≡_ {A = ℕ} 0 1 = cc in omega arith)

@@ -7,13 +7,13 @@ use mathlib.Core.Path.{_≡_, refl, ap, sym, _∙_}
 use mathlib.Core.Bool.{Bool, true, false, cond, _&&_}
 use mathlib.Core.List.{List, [], _∷_, _++_, append-assoc, append-nil}
 use lib.ListN.{length, replicate, length-append, length-replicate}
-use borrow.Author.Tests.{eqb-false}
+use borrow.Author.Tests.{eqb-false, le-leb}
 use Rattle.desk.specs.Search.{trail, shown}
-use Rattle.desk.specs.Push.{Answer, answers, shifted}
+use Rattle.desk.specs.Push.{Answer, answers}
 use Rattle.desk.proofs.Search.{shown-held}
-use Rattle.desk.proofs.Choice.{cond-by}
+use Rattle.desk.proofs.Choice.{cond-ind, cond-by}
 use Rattle.annexb.specs.declared.AnnexBReader.{AnnexBReader}
-use Rattle.annexb.specs.Rule.{Frame, joined, endsFrom, givenOf, endsOf, unitsOf}
+use Rattle.annexb.specs.Rule.{Frame, joined, endsFrom}
 use Rattle.annexb.specs.Seen.{at, new, stateIn}
 use Rattle.annexb.specs.Answer.{entering, closing, resetAnswer}
 use Rattle.annexb.specs.Calls.{Completes}
@@ -38,6 +38,11 @@ unfolding resetAnswer closing
 ending s w m =
     let n = entering s 0 w m in
     cond-by (Ending s) (eqb n 0) _ (answers n s) (λ _. open-ending (s .«in_unit») (s .zeros) (leb (s .zeros) w && leb 1 m)) (λ q. Ending.refuses n (eqb-false n 0 q))
+
+-- where the held zeros and the mark fit, a reset that passes its entry checks is done
+pub reset-done : (s : AnnexBReader) (w m : ℕ) → entering s 0 w m ≡ 0 → s .zeros ≤ w → 1 ≤ m → resetAnswer s w m .number ≡ 0
+unfolding resetAnswer closing
+reset-done s w m e a b = rw (e, le-leb (s .zeros) w a, le-leb 1 m b) (cond-ind (λ (x : Answer AnnexBReader). x .number ≡ 0) (s .«in_unit») _ _ refl refl)
 
 -- a reset that is refused changes nothing
 pub reset-kept : (s : AnnexBReader) (w m : ℕ) → (resetAnswer s w m .number ≡ 0 → ⊥) → resetAnswer s w m ≡ answers (resetAnswer s w m .number) s

@@ -5,16 +5,16 @@ use native.Mathlib.Omega.{arith}
 use mathlib.Core.Path.{_≡_, refl, ap, ap₂, sym, _∙_}
 use mathlib.Core.Bool.{Bool, true, false, cond, _&&_, and-true}
 use mathlib.Core.List.{List, [], _∷_, _++_, append-assoc, append-nil}
-use mathlib.Core.Option.{some, Option·some-injective}
+use mathlib.Core.Option.{Option·some-injective}
 use lib.ListN.{length, replicate, length-append}
 use Rattle.desk.specs.Search.{is0, is1, upTo1, trail, shown, two, zerosAfter}
-use Rattle.desk.specs.Push.{Out, Seen, seen, seenAfter, Follows}
+use Rattle.desk.specs.Push.{seen, seenAfter, Follows}
 use Rattle.desk.proofs.Search.{trail-more, shown-other, shown-zero}
 use Rattle.desk.proofs.Choice.{ap-cond}
 use Rattle.annexb.specs.declared.AnnexBReader.{AnnexBReader}
 use Rattle.annexb.specs.Rule.{Frame, unended, behind, frameFrom, joined, endsFrom}
 use Rattle.annexb.specs.Seen.{at, stateIn, seenIn, rule}
-use Rattle.annexb.specs.Step.{outStep, inStep, step, stepping}
+use Rattle.annexb.specs.Step.{step, stepping}
 use Rattle.annexb.proofs.Framing.{reopened, onByte, frame-more}
 
 -- ---- joined units and their ends

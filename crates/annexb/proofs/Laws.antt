@@ -1,20 +1,19 @@
 -- THE LAWS OF FRAMING THAT A CALLER CITES: cuts, room, what follows any history, one outcome.
-use Prim.Native.Nat.{ℕ, zero, suc, _+_, _≤_, _<_, zero-le}
+use Prim.Native.Nat.{ℕ, _+_, _≤_, zero-le}
 use native.Mathlib.Omega.{arith}
-use lib.Dec.{ltb, eqb}
+use lib.Dec.{eqb}
 use mathlib.Core.Path.{_≡_, refl, ap, ap₂, sym, _∙_, subst}
 use mathlib.Core.Bool.{Bool, true, false, cond, _&&_}
 use mathlib.Core.List.{List, [], _∷_, _++_}
-use mathlib.Core.Option.{Option, none, some}
-use lib.ListN.{length, take, replicate, length-append, length-replicate}
-use borrow.Author.Tests.{le-ltb, eqb-true}
-use Rattle.desk.specs.Numbers.{most, entryOf}
+use lib.ListN.{length, replicate, length-append, length-replicate}
+use borrow.Author.Tests.{eqb-true, eqb-false}
 use Rattle.desk.specs.Search.{is0, is1, upTo1, trail, two}
-use Rattle.desk.specs.Push.{Out, Answer, answers, marked, run, pushOf, Pushes, shifted, Seen, seen, Cut, accepts, Fits, Longest}
-use Rattle.desk.proofs.Choice.{cond-ind, cond-by}
+use Rattle.desk.specs.Push.{Out, Answer, answers, marked, pushOf, Pushes, shifted, Seen, seen, Cut, accepts, Fits, Longest}
+use Rattle.desk.proofs.Choice.{cond-ind}
 use Rattle.desk.proofs.Cutting.{pushes-cut}
-use Rattle.desk.proofs.Entering.{entry-done}
-use Rattle.desk.proofs.Taking.{push-longest, takes-all, takes-one}
+use Rattle.desk.proofs.Lists.{trail-few}
+use Rattle.desk.proofs.Restarting.{restart}
+use Rattle.desk.proofs.Taking.{push-refused, push-longest, takes-all, takes-first}
 use Rattle.desk.proofs.Unique.{one-outcome}
 use Rattle.annexb.specs.declared.AnnexBReader.{AnnexBReader}
 use Rattle.annexb.specs.declared.Pushed.{Pushed}
@@ -24,7 +23,6 @@ use Rattle.annexb.specs.Step.{inStep, outStep, step, stepping}
 use Rattle.annexb.specs.Answer.{entering, pushAnswer, Gave}
 use Rattle.annexb.proofs.Following.{follows}
 use Rattle.annexb.proofs.Pushing.{zeros-passed}
-use Rattle.annexb.proofs.Restart.{restart}
 
 -- ---- cuts
 
@@ -45,12 +43,6 @@ same-however-cut k p q =
 pub no-byte-forbidden : (s : AnnexBReader) (bs : List ℕ) → accepts stepping s bs ≡ true
 no-byte-forbidden s [] = refl
 no-byte-forbidden s (b ∷ bs) = no-byte-forbidden (step s b .after) bs
-
-pub trail-few : (s : List ℕ) → trail s ≤ 2
-trail-few [] = omega arith
-trail-few (x ∷ []) = cond-ind (λ (n : ℕ). n ≤ 2) (is0 x) 1 0 (omega arith) (omega arith)
-trail-few (x ∷ y ∷ []) = cond-ind (λ (n : ℕ). n ≤ 2) (is0 y) (cond (is0 x) 2 1) 0 (cond-ind (λ (n : ℕ). n ≤ 2) (is0 x) 2 1 (omega arith) (omega arith)) (omega arith)
-trail-few (x ∷ y ∷ z ∷ s) = trail-few (y ∷ z ∷ s)
 
 -- FROM ANY HISTORY h ON, the rule of the state reached gives what the rule gives for h ++ t beyond h
 pub onward : (h t : List ℕ)
@@ -90,17 +82,13 @@ mark-one false l = omega arith
 pub push-takes-one : (s : AnnexBReader) (b : ℕ) (bs : List ℕ) (w m : ℕ) → entering s (length (b ∷ bs)) w m ≡ 0 → 3 ≤ w → 1 ≤ m → 1 ≤ pushAnswer s (b ∷ bs) w m .taken
 push-takes-one s b bs w m e h k =
     let z = few s (b ∷ bs) w m e in
-    let s′ = rule s [] .state in
-    let same : s′ ≡ s = ap (λ (v : Seen AnnexBReader). v .state) (follows s z .new) in
-    let z′ : s′ .zeros ≤ 2 = subst (λ (x : AnnexBReader). x .zeros ≤ 2) (sym same) z in
-    subst (λ (a : Answer AnnexBReader). 1 ≤ a .taken) (from-here s (b ∷ bs) w m e)
-    (takes-one (follows s z) [] b bs w m (step s′ b) refl (omega (arith, step-three s′ b z′)) (omega (arith, mark-one (step s′ b .mark) (rule s [] .bytes))))
+    subst (λ (n : ℕ). 1 ≤ pushOf stepping n s (b ∷ bs) w m .taken) (sym e) (takes-first stepping s b bs w m (step s b) refl (omega (arith, step-three s b z)) (omega (arith, mark-one (step s b .mark) [])))
 
 -- ---- numbers
 
-refused-number : (s : AnnexBReader) (chunk : List ℕ) (w m n : ℕ) → eqb n 0 ≡ false → pushOf stepping n s chunk w m .number ≡ n
-unfolding pushOf
-refused-number s chunk w m n q = rw q refl
+-- a refused push changes nothing
+pub push-kept : (s : AnnexBReader) (chunk : List ℕ) (w m : ℕ) → (entering s (length chunk) w m ≡ 0 → ⊥) → pushAnswer s chunk w m ≡ answers (entering s (length chunk) w m) s
+push-kept s chunk w m h = push-refused stepping (entering s (length chunk) w m) s chunk w m h
 
 -- a push answers 0, 1 or 2, by its entry checks alone
 pub push-number : (s : AnnexBReader) (chunk : List ℕ) (w m : ℕ) → pushAnswer s chunk w m .number ≡ entering s (length chunk) w m
@@ -111,7 +99,7 @@ push-number s chunk w m = go (eqb (entering s (length chunk) w m) 0) refl
         let e = eqb-true (entering s (length chunk) w m) 0 q in
         let l = push-takes-longest s chunk w m e in
         l .number-0 (λ k. let x : _≡_ {A = ℕ} 0 1 = cc (l .number-7 k .1) in omega arith) .0 ∙ sym e
-    go false q = refused-number s chunk w m (entering s (length chunk) w m) q
+    go false q = ap (λ (a : Answer AnnexBReader). a .number) (push-kept s chunk w m (eqb-false (entering s (length chunk) w m) 0 q))
 
 -- ---- ONE OUTCOME: what the contract of a push or of a reset says leaves one
 pub one-result : {a : Answer AnnexBReader} {room marks room₁ room₂ marks₁ marks₂ : List ℕ} {r₁ r₂ : Pushed}

@@ -8,8 +8,8 @@ pub mod Laws
 pub mod Pushing
 pub mod Reach
 pub mod Resetting
-pub mod Restart
 pub mod Sheets
 pub mod Stepping
+pub mod Streams
 pub mod Table
 pub mod Writing

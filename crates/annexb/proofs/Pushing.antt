@@ -3,7 +3,7 @@ use Prim.Native.Nat.{ℕ, _+_, _-_, _≤_, _<_}
 use native.Mathlib.Omega.{arith}
 use mathlib.Core.Path.{_≡_, refl, ap, sym, _∙_, subst}
 use mathlib.Core.Bool.{Bool, true, false, cond}
-use mathlib.Core.List.{List, [], _∷_}
+use mathlib.Core.List.{List}
 use lib.Dec.{ltb}
 use lib.ListN.{length, take, getD, replicate, length-replicate}
 use lib.Seq.{length-take-le}
@@ -13,7 +13,7 @@ use Rattle.desk.specs.Numbers.{entryOf}
 use Rattle.desk.specs.Room.{written}
 use Rattle.desk.specs.Push.{Out, answers, marked, run}
 use Rattle.desk.proofs.Entering.{entry-passed}
-use Rattle.desk.proofs.Pushing.{Wrote, wrote, Going, sofar, going-more, gives, gives-refused, stop-full, stop-full-marks}
+use Rattle.desk.proofs.Pushing.{wrote, Going, sofar, going-more, gives, gives-refused, stop-full, stop-full-marks}
 use Rattle.annexb.specs.declared.AnnexBReader.{AnnexBReader}
 use Rattle.annexb.specs.declared.Pushed.{Pushed}
 use Rattle.annexb.specs.declared.Stepped.{Stepped}

@@ -1,7 +1,7 @@
 -- Every number that a push and a reset can give is given by some input.
 use Prim.Native.Nat.{ℕ, _<_}
 use native.Mathlib.Omega.{arith}
-use mathlib.Core.Path.{_≡_, refl, ap, _∙_, sym}
+use mathlib.Core.Path.{_≡_, refl, ap, _∙_}
 use mathlib.Core.Bool.{Bool, true, false, _||_}
 use mathlib.Core.List.{List, [], _∷_}
 use lib.Dec.{ltb}
@@ -11,7 +11,7 @@ use Rattle.desk.specs.Numbers.{most, anyOver, entryOf}
 use Rattle.desk.proofs.Entering.{entry-long}
 use Rattle.annexb.specs.declared.AnnexBReader.{AnnexBReader}
 use Rattle.annexb.specs.Seen.{at, new}
-use Rattle.annexb.specs.Answer.{entering, pushAnswer, closing, resetAnswer}
+use Rattle.annexb.specs.Answer.{pushAnswer, closing, resetAnswer}
 use Rattle.annexb.proofs.Laws.{push-number}
 
 -- a chunk over the limit, whatever the state and the rooms; a room's length is a number, and computes

@@ -1,7 +1,7 @@
 -- Document 01's starred framing cases, proved together: by the rule, and by what push and reset answer.
 use Prim.Native.Nat.{ℕ}
 use mathlib.Core.Path.{_≡_, refl}
-use mathlib.Core.Bool.{true, false}
+use mathlib.Core.Bool.{true}
 use mathlib.Core.List.{List, [], _∷_}
 use Rattle.desk.specs.Numbers.{entryOf}
 use Rattle.desk.specs.Push.{pushOf, run}

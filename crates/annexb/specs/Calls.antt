@@ -3,7 +3,7 @@ use Prim.Native.Nat.{ℕ, _+_}
 use mathlib.Core.Path.{_≡_}
 use mathlib.Core.List.{List, [], _∷_, _++_}
 use lib.ListN.{length, take}
-use Rattle.desk.specs.Push.{Answer, Seen, seen, shifted}
+use Rattle.desk.specs.Push.{Answer, seen, shifted}
 use Rattle.annexb.specs.declared.AnnexBReader.{AnnexBReader}
 use Rattle.annexb.specs.declared.Pushed.{Pushed}
 use Rattle.annexb.specs.Rule.{Frame, givenOf, endsOf, unitsOf, joined, endsFrom, unitsAtReset}

@@ -41,6 +41,8 @@ fn does(in_unit: bool, zeros: u8, count: usize, ends: usize) -> Stepped
     }
 }
 
+// Behind two zeros 01 starts a unit, and 00 or 01 ends one: neither pattern stands in a NAL unit (Rec 7.4.1), and a start code is 00 00 01 (Rec B.1.1).
+// A third zero is no third held one: the two before it may yet be a start code's. Any other byte of a unit releases the zeros held, and itself.
 fn step(s: AnnexBReader, b: u8) -> Stepped
     requires { ⌜ s .zeros ≤ 2 ⌝ }
     ensures { λ r. ⌜ Does (step s b) b r ⌝ }
@@ -97,6 +99,7 @@ fn put_mark(room: &mut [u64], count: usize, mark: u64)
     }
 }
 
+// An answer of a call that is done.
 fn gave(taken: usize, written: usize, marked: usize, state: AnnexBReader) -> Pushed
     ensures { λ r. ⌜ r ≡ gave taken written marked state ⌝ }
 {
@@ -187,7 +190,7 @@ impl AnnexBReader {
         if zeros > room.len() {
             return refused(desk::NO_ROOM, self);
         }
-        if 1 > marks.len() {
+        if marks.len() < 1 {
             return refused(desk::NO_ROOM, self);
         }
         put_zeros(room, zeros);

@@ -2,20 +2,16 @@
 use mathlib.Core.Path.{_≡_, refl, sym, ap, ap₂, _∙_, subst}
 use mathlib.Core.List.{List, [], _∷_, _++_}
 use mathlib.Core.Bool.{Bool, true, false, cond}
-use Prim.Native.Nat.{ℕ, zero, suc, _+_, _-_, _*_, _≤_, _<_}
+use Prim.Native.Nat.{ℕ, zero, suc, _+_, _-_, _≤_}
 use native.Mathlib.Nat.{add-zero, add-suc}
 use native.Mathlib.Omega.{arith}
-use borrow.Author.Tests.{ltb-false, le-ltb}
 use lib.ListN.{length, take, drop, length-append, length-drop}
 use lib.Seq.{take-nil, take-take, drop-drop, take-append-le, drop-append-le, drop-append-add}
-use lib.Dec.{ltb}
 use Rattle.desk.specs.Numbers.{most}
 use Rattle.bits.specs.Rule.{size, bits, Stands}
-use Rattle.bits.specs.Answer.{Ans, got, no, andThen, unless, entryAt, readBits, readBit, readUe, readSe, skipped}
-use Rattle.bits.specs.Reading.{Entered, Took, ReadsCodes, SameBits, Local}
+use Rattle.bits.specs.Answer.{Ans, got, no, andThen, readBits, readBit, readUe, readSe}
+use Rattle.bits.specs.Reading.{ReadsCodes, SameBits, Local}
 use Rattle.bits.proofs.Codes.{length-bits, bits-append}
-use Rattle.bits.proofs.Entry.{entered, enters}
-use Rattle.bits.proofs.Taking.{cond-all, unless-all}
 use Rattle.bits.proofs.Reading.{bits-codes, bits-width, bit-codes, ue-codes, se-codes}
 
 -- ---- parts of the same bits

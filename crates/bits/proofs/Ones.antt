@@ -14,7 +14,7 @@ use lib.Dec.{eqb}
 use lib.Pow.{high}
 use lib.Count.{leadingZeros, leading-top, trailingZeros}
 use Rattle.bits.specs.Rule.{orElse, bitAt, valueAt, firstOne, lastOne, size}
-use Rattle.bits.specs.Step.{placed, FirstFrom, AfterLast}
+use Rattle.bits.specs.Step.{FirstFrom, AfterLast}
 use Rattle.bits.specs.Answer.{behind, finishFrom}
 use Rattle.bits.proofs.Value.{bit-lt, value-lt, value-zero, value-suc, value-split, value-one, value-byte, value-in-byte, pow-lt-cancel}
 use Rattle.bits.proofs.Trailing.{trailing-low, trailing-one, trailing-byte}

@@ -1,13 +1,13 @@
 -- Every number that a call can give is given by some input. Assumes nothing.
-use mathlib.Core.Path.{_≡_, refl, sym, ap, _∙_, subst}
+use mathlib.Core.Path.{_≡_, refl, sym, subst}
 use mathlib.Core.List.{List, [], _∷_}
 use mathlib.Core.Bool.{true, false}
 use mathlib.Core.Option.{none, some}
-use Prim.Native.Nat.{ℕ, suc, _<_}
+use Prim.Native.Nat.{ℕ, _<_}
 use native.Mathlib.Omega.{arith}
 use borrow.Author.Tests.{lt-ltb}
-use lib.ListN.{length, take, drop, replicate, length-replicate}
-use lib.IntN.{ℤ, pos, negsuc}
+use lib.ListN.{length, replicate, length-replicate}
+use lib.IntN.{pos, negsuc}
 use Rattle.desk.specs.Numbers.{most, entryOf}
 use Rattle.desk.proofs.Entering.{entry-long}
 use Rattle.bits.specs.Rule.{bitAt, valueAt, firstOne, lastOne, topOf}

@@ -1,12 +1,12 @@
 -- What reading says, for the crates above: each reader reads exactly the codes of its values, and each refusal has its reason. Assumes nothing.
 use mathlib.Core.Path.{_≡_, refl, sym, ap, ap₂, _∙_, subst}
-use mathlib.Core.List.{List, [], _∷_}
-use mathlib.Core.Bool.{Bool, true, false, cond}
+use mathlib.Core.List.{List}
+use mathlib.Core.Bool.{Bool, true, false}
 use mathlib.Core.Option.{Option, none, some}
-use Prim.Native.Nat.{ℕ, zero, suc, _+_, _-_, _*_, _^_, _≤_, _<_}
+use Prim.Native.Nat.{ℕ, suc, _+_, _-_, _*_, _^_, _≤_, _<_}
 use native.Mathlib.Nat.{pow-suc}
 use native.Mathlib.Omega.{arith}
-use borrow.Author.Tests.{ltb-false, ltb-true, lt-ltb, le-ltb}
+use borrow.Author.Tests.{ltb-false, ltb-true, le-ltb}
 use lib.ListN.{length}
 use lib.Dec.{ltb, eqb}
 use lib.IntN.{ℤ}
@@ -15,12 +15,12 @@ use native.Mathlib.Decide.{decLt}
 use Rattle.bits.proofs.Signs.{unsigned-signed, signed-unsigned, in-range, has-code}
 use lib.Pow.{pow-pos, pow-mono}
 use Rattle.bits.specs.Rule.{size, valueAt, firstOne, bitsOf, prefixOf, ueCode, Stands, URange, UeRange, signedOf, unsignedOf, seCode, SeRange}
-use Rattle.bits.specs.Answer.{Ans, got, no, unless, entryAt, ueWidth, readBits, readUe, ueFrom, asSigned, readSe, asBool, readBit}
+use Rattle.bits.specs.Answer.{Ans, got, no, entryAt, ueWidth, readBits, readUe, ueFrom, asSigned, readSe, asBool, readBit}
 use Rattle.bits.specs.Reading.{Entered, bitCode, AnyBit, Took, ReadsCodes, WhyBits, bitsEntry, bitsWide, bitsShort, OneAfter, WhyUe, ueEntry, ueNone, ueMany, ueShort}
-use Rattle.bits.proofs.Entry.{entered, enters, entry-why, why-entry}
+use Rattle.bits.proofs.Entry.{entered, enters, entry-why}
 use Rattle.bits.proofs.Taking.{cond-all, unless-all}
 use Rattle.bits.proofs.Value.{value-lt, value-split}
-use Rattle.bits.proofs.Ones.{first-none, first-is, none-first, first-some, top-one}
+use Rattle.bits.proofs.Ones.{first-is, none-first, first-some, top-one}
 use Rattle.bits.proofs.Top.{top-is, prefix}
 use Rattle.bits.proofs.Codes.{length-bits-of, value-stands, stands-value, ue-bits, length-ue, ue-below}
 

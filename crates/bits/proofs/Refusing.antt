@@ -1,17 +1,15 @@
 -- Each number of a reader is given exactly where its reason holds; and which numbers are left to a caller that has made the entry checks itself.
 -- Assumes nothing.
-use mathlib.Core.Path.{_≡_, refl, sym, ap, _∙_}
+use mathlib.Core.Path.{_≡_, refl, ap, _∙_}
 use mathlib.Core.List.{List}
 use mathlib.Core.Bool.{false, true}
 use mathlib.Core.Logic.{_⊎_, inl, inr}
-use mathlib.Core.Option.{Option, none, some}
+use mathlib.Core.Option.{some}
 use Prim.Native.Nat.{ℕ, suc, _+_, _-_, _≤_, _<_}
 use native.Mathlib.Omega.{arith}
 use borrow.Author.Tests.{lt-ltb, le-ltb, ltb-false}
-use lib.ListN.{length}
-use Rattle.desk.specs.Numbers.{most}
-use Rattle.bits.specs.Rule.{size, valueAt, firstOne}
-use Rattle.bits.specs.Answer.{Ans, got, no, unless, entryAt, pastEnd, readBits, readBit, readUe, readSe, asSigned, asBool}
+use Rattle.bits.specs.Rule.{size, firstOne}
+use Rattle.bits.specs.Answer.{Ans, no, unless, entryAt, pastEnd, readBits, readBit, readUe, readSe}
 use Rattle.bits.specs.Reading.{Entered, WhyEntry, long, past, WhyBits, bitsEntry, bitsWide, bitsShort, OneAfter, WhyUe, ueEntry, ueNone, ueMany, ueShort}
 use Rattle.bits.proofs.Entry.{enters, why-entry}
 use Rattle.bits.proofs.Ones.{first-none, first-is}

@@ -1,7 +1,6 @@
 -- Document 01's starred cases of ue and finish, proved together, by computing. Assumes nothing.
 use mathlib.Core.Path.{_≡_, refl}
-use mathlib.Core.List.{List, [], _∷_, _++_}
-use Prim.Native.Nat.{ℕ}
+use mathlib.Core.List.{[], _∷_, _++_}
 use lib.ListN.{replicate}
 use Rattle.desk.specs.Numbers.{entryOf}
 use Rattle.bits.specs.Rule.{bitAt, lastOne, bitsOf, topOf, ueCode}

@@ -1,6 +1,6 @@
 -- Signed numbers of 32 bits. Assumes nothing.
 use mathlib.Core.Path.{_≡_, refl, ap, _∙_}
-use mathlib.Core.Bool.{Bool, true, false}
+use mathlib.Core.Bool.{true, false}
 use borrow.Author.Tests.{ltb-true, ltb-false, eq-eqb, ne-eqb, le-leb, lt-leb}
 use lib.Signed.{ltZ, nonNeg}
 use Rattle.bits.specs.Rule.{signedOf, unsignedOf, SeRange}

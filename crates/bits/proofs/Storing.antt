@@ -11,7 +11,7 @@ use lib.Pow.{pow-add, mod-pow-add, mod-mod-pow, field, high, low, shr-shr, shl-e
 use lib.Arith.{digits-lt}
 use lib.Bits.{bitAnd}
 use Rattle.desk.specs.Numbers.{most}
-use Rattle.bits.specs.Step.{bytesOf, filled, stored, more, Wrote, wrote, Good, GoodAfter}
+use Rattle.bits.specs.Step.{bytesOf, filled, stored, more, wrote, Good, GoodAfter}
 use Rattle.bits.proofs.Value.{masked}
 
 -- ---- the bytes of a number

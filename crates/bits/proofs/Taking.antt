@@ -1,15 +1,15 @@
 -- What a read that took something says of its value and its place. Assumes nothing.
-use mathlib.Core.Path.{_≡_, refl, sym, subst}
+use mathlib.Core.Path.{_≡_, refl}
 use mathlib.Core.List.{List}
 use mathlib.Core.Bool.{Bool, true, false, cond}
 use mathlib.Core.Option.{Option, none, some}
-use Prim.Native.Nat.{ℕ, zero, suc, _+_, _-_, _^_, _≤_, _<_}
+use Prim.Native.Nat.{ℕ, zero, suc, _+_, _-_, _<_}
 use native.Mathlib.Omega.{arith}
 use borrow.Author.Tests.{ltb-false}
 use lib.Dec.{ltb}
 use lib.Pow.{pow-mono}
-use Rattle.bits.specs.Rule.{size, valueAt, firstOne}
-use Rattle.bits.specs.Answer.{Ans, got, no, unless, entryAt, readUe, ueFrom, readBits}
+use Rattle.bits.specs.Rule.{size, firstOne}
+use Rattle.bits.specs.Answer.{Ans, got, no, unless, entryAt, readUe, ueFrom}
 use Rattle.bits.proofs.Value.{value-lt}
 
 -- a chosen thing has what both have

@@ -1,21 +1,20 @@
 -- Any sequence of writes, closed by trailing bits, reads back value for value, and `finish_rbsp` answers 0 behind it. Assumes nothing.
 use mathlib.Core.Path.{_≡_, refl, sym, ap, ap₂, _∙_, subst}
 use mathlib.Core.List.{List, [], _∷_, _++_, append-assoc, append-nil}
-use mathlib.Core.Bool.{Bool, true, false}
-use mathlib.Core.Option.{Option, none, some}
-use Prim.Native.Nat.{ℕ, zero, suc, _+_, _-_, _*_, _/_, _%_, _^_, _≤_, _<_}
-use native.Mathlib.Nat.{add-zero, add-assoc}
+use mathlib.Core.Option.{none, some}
+use Prim.Native.Nat.{ℕ, _+_, _-_, _*_, _/_, _%_, _^_, _≤_}
+use native.Mathlib.Nat.{add-zero}
 use native.Mathlib.Omega.{arith}
 use borrow.Author.Tests.{eq-eqb}
-use lib.ListN.{length, take, drop, replicate, length-append, length-replicate}
+use lib.ListN.{length, take, drop, length-append, length-replicate}
 use lib.Seq.{take-at, drop-at, length-take-le}
 use lib.Pow.{high, low, pow-pos, pow-lt}
 use Rattle.desk.specs.Numbers.{most}
 use Rattle.bits.specs.Rule.{size, bitAt, valueAt, lastOne, bits, bitsOf, trailingBits, Stands}
-use Rattle.bits.specs.Step.{Good, wrote}
-use Rattle.bits.specs.Answer.{writeTrailing, Writes, newWriter, finishRbsp, finishFrom, entryAt, unless}
+use Rattle.bits.specs.Step.{Good}
+use Rattle.bits.specs.Answer.{writeTrailing, Writes, newWriter, finishRbsp}
 use Rattle.bits.specs.Reading.{Entered}
-use Rattle.bits.specs.Writing.{content, Appends, WriteMeans, Field, u, flag, ue, se, codeOf, HasCode, without, writeField, ReadsField, Written, nothing, next, ReadBack, end, then}
+use Rattle.bits.specs.Writing.{content, Appends, WriteMeans, Field, u, flag, ue, se, codeOf, HasCode, without, ReadsField, Written, nothing, next, ReadBack, end, then}
 use Rattle.bits.specs.declared.BitWriter.{BitWriter}
 use Rattle.bits.specs.declared.Put.the-variants.{Done}
 use Rattle.bits.proofs.Entry.{enters}

@@ -1,21 +1,21 @@
 -- What a write leaves: the content grown by the code, and the rest of the room as it was; or the reason of its number. Assumes nothing.
 use mathlib.Core.Path.{_≡_, refl, sym, ap, ap₂, _∙_, subst}
-use mathlib.Core.List.{List, [], _∷_, _++_, append-assoc, append-nil}
+use mathlib.Core.List.{List, [], _∷_, _++_, append-assoc}
 use mathlib.Core.Bool.{Bool, true, false}
 use mathlib.Core.Logic.{_⊎_, inl, inr}
 use Prim.Native.Nat.{ℕ, zero, suc, _+_, _-_, _*_, _/_, _%_, _^_, _≤_, _<_}
 use native.Mathlib.Nat.{add-zero}
 use native.Mathlib.Omega.{arith}
 use borrow.Author.Tests.{ltb-false, ltb-true, leb-false, leb-true}
-use lib.ListN.{length, take, drop, length-append}
+use lib.ListN.{length, take, length-append}
 use lib.Seq.{length-take-le}
 use lib.Pow.{high, low, pow-lt}
 use lib.Dec.{ltb, leb}
 use lib.IntN.{ℤ, natAbs}
 use Rattle.desk.specs.Numbers.{most}
-use Rattle.bits.specs.Rule.{bits, bitsOf, URange, ueCode, UeRange, seCode, SeRange, unsignedOf, trailingBits}
+use Rattle.bits.specs.Rule.{bits, bitsOf, ueCode, UeRange, seCode, SeRange, unsignedOf, trailingBits}
 use Rattle.bits.specs.Step.{Good, Wrote, wrote, kept, stored, filled, bytesOf}
-use Rattle.bits.specs.Answer.{entryOn, badWriter, roomed, ueWidth, bitNumber, writeBits, writeBit, writeUe, writeSe, writeTrailing}
+use Rattle.bits.specs.Answer.{entryOn, badWriter, roomed, ueWidth, writeBits, writeBit, writeUe, writeSe, writeTrailing}
 use Rattle.bits.specs.Reading.{bitCode}
 use Rattle.bits.specs.Writing.{content, Appends, WhyNot, tooLong, badState, hasNone, noRoom, WriteMeans, Field, u, flag, ue, se, codeOf, HasCode, without, writeField}
 use Rattle.bits.proofs.Entry.{entry-numbers, good}

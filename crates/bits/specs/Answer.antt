@@ -1,5 +1,5 @@
 -- WHAT EACH CALL ANSWERS, for everything that goes in, refusals included; and, for each call, the record that ties its result to that answer.
-use Prim.Native.Nat.{ℕ, zero, suc, _+_, _-_, _*_, _/_, _%_, _^_}
+use Prim.Native.Nat.{ℕ, zero, suc, _+_, _-_, _/_, _%_, _^_}
 use mathlib.Core.Path.{_≡_}
 use mathlib.Core.List.{List, [], _∷_}
 use mathlib.Core.Bool.{Bool, true, false, cond, _||_}
@@ -7,7 +7,7 @@ use mathlib.Core.Option.{Option, none, some}
 use lib.ListN.{length}
 use lib.Dec.{ltb, leb, eqb}
 use lib.IntN.{ℤ, natAbs}
-use Rattle.desk.specs.Numbers.{most, done, badWidth, bitsRunOut, expGolombTooLarge, remainingData, noCode, noRoom, entryOf}
+use Rattle.desk.specs.Numbers.{done, badWidth, bitsRunOut, expGolombTooLarge, remainingData, noCode, noRoom, entryOf}
 use Rattle.bits.specs.Rule.{size, valueAt, firstOne, lastOne, signedOf, unsignedOf, prefixOf}
 use Rattle.bits.specs.Step.{Wrote, wrote, kept, stored}
 use Rattle.bits.specs.declared.BitReader.{BitReader}

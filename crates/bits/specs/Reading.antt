@@ -1,11 +1,10 @@
 -- READING, FOR THE CRATES ABOVE: the answers' names, passed on shut, and what the laws of proofs/Reading.antt say of them. No crate above opens a
 -- definition of this one.
-use Prim.Native.Nat.{ℕ, suc, _+_, _-_, _^_, _≤_, _<_}
+use Prim.Native.Nat.{ℕ, suc, _+_, _-_, _≤_, _<_}
 use mathlib.Core.Path.{_≡_}
 use mathlib.Core.List.{List, [], _∷_}
 use mathlib.Core.Bool.{Bool}
 use lib.ListN.{length, take, drop}
-use lib.IntN.{ℤ}
 use Rattle.desk.specs.Numbers.{most}
 use Rattle.bits.specs.Rule.{valueAt}
 pub use Rattle.bits.specs.Rule.{size, bits, bitsOf, URange, ueCode, UeRange, seCode, SeRange, Stands}

@@ -5,7 +5,7 @@ use mathlib.Core.List.{List, [], _∷_, _++_}
 use mathlib.Core.Bool.{cond}
 use mathlib.Core.Option.{Option, none, some}
 use lib.ListN.{length, take, drop}
-use lib.Dec.{ltb, leb}
+use lib.Dec.{ltb}
 use Rattle.desk.specs.Numbers.{most}
 use Rattle.bits.specs.Rule.{size, bitAt, valueAt, firstOne, prefixOf}
 

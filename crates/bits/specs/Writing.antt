@@ -1,5 +1,5 @@
 -- WRITING, AND READING BACK: what the laws of proofs/Writing.antt and proofs/WriteRead.antt say.
-use Prim.Native.Nat.{ℕ, _+_, _*_, _/_, _≤_, _<_}
+use Prim.Native.Nat.{ℕ, _+_, _/_, _≤_, _<_}
 use mathlib.Core.Path.{_≡_}
 use mathlib.Core.List.{List, [], _∷_, _++_}
 use mathlib.Core.Bool.{Bool, true}
@@ -8,7 +8,7 @@ use lib.IntN.{ℤ}
 use Rattle.desk.specs.Numbers.{most, badWidth, noCode}
 use Rattle.bits.specs.Rule.{bits, bitsOf, URange, ueCode, UeRange, seCode, SeRange}
 use Rattle.bits.specs.Step.{Good, Wrote, wrote, kept}
-use Rattle.bits.specs.Answer.{Ans, got, badWriter, writeBits, writeBit, writeUe, writeSe, Writes, readBits, readBit, readUe, readSe}
+use Rattle.bits.specs.Answer.{got, badWriter, writeBits, writeBit, writeUe, writeSe, Writes, readBits, readBit, readUe, readSe}
 use Rattle.bits.specs.Reading.{bitCode}
 use Rattle.bits.specs.declared.BitWriter.{BitWriter}
 use Rattle.bits.specs.declared.Put.the-variants.{Done}

@@ -1,4 +1,4 @@
-// Widenings, which lose nothing.
+// Widenings, which lose nothing. As calls, they ask no proof that a byte of a slice fits.
 ghost use mathlib.Core.Path.{_≡_};
 
 pub fn byte_to_u32(x: u8) -> u32
@@ -11,22 +11,4 @@ pub fn byte_to_u64(x: u8) -> u64
     ensures { λ r. ⌜ r ≡ x ⌝ }
 {
     x as u64
-}
-
-pub fn byte_to_usize(x: u8) -> usize
-    ensures { λ r. ⌜ r ≡ x ⌝ }
-{
-    x as usize
-}
-
-pub fn to_u64(x: u32) -> u64
-    ensures { λ r. ⌜ r ≡ x ⌝ }
-{
-    x as u64
-}
-
-pub fn to_usize(x: u32) -> usize
-    ensures { λ r. ⌜ r ≡ x ⌝ }
-{
-    x as usize
 }

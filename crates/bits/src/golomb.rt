@@ -1,7 +1,7 @@
 // se(v)'s mapping (Rec 9.1.1), and the length of ue(v)'s prefix (Rec 9.1).
 ghost use mathlib.Core.Path.{_≡_};
 ghost use Prim.Native.Nat.{_<_};
-ghost use lib.IntN.{ℤ, negsuc};
+ghost use lib.IntN.{negsuc};
 ghost use Rattle.bits.specs.Rule.{signedOf, unsignedOf};
 ghost use Rattle.bits.specs.Step.{Prefix};
 ghost use Rattle.bits.specs.Answer.{mapped, mappedAnswer};

@@ -1,10 +1,12 @@
 // Bits of a byte slice, highest first (Rec 7.2, 9.1).
-pub mod answers;
+mod answers;
 mod cast;
-pub mod golomb;
+mod golomb;
 mod places;
-pub mod reader;
-pub mod writer;
+mod reader;
+mod writer;
+
+pub use golomb::golomb_to_signed;
 
 // A place of a bit: the bits before it.
 pub struct BitPos(pub usize);

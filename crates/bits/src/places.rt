@@ -1,84 +1,120 @@
 // What stands at the places of a slice: the value of some bits, the first one and the last one.
 ghost use mathlib.Core.Path.{_≡_};
-ghost use Prim.Native.Nat.{ℕ, _+_, _-_, _*_, _≤_, _<_};
+ghost use Prim.Native.Nat.{_+_, _-_, _*_, _/_, _%_, _≤_, _<_};
 ghost use lib.ListN.{length};
 ghost use lib.Count.{leadingZeros};
 ghost use Rattle.desk.specs.Numbers.{most};
 ghost use Rattle.bits.specs.Rule.{valueAt, size};
 ghost use Rattle.bits.specs.Step.{FirstFrom, AfterLast};
+ghost use Rattle.bits.specs.Answer.{wholeBytes, alignedAnswer};
+use super::Aligned;
+use super::BitPos;
+use super::BytePos;
 use super::cast::byte_to_u32;
 use super::cast::byte_to_u64;
-use super::cast::to_usize;
+
+impl BitPos {
+    // The byte that starts here, if one does.
+    pub fn byte(self) -> Aligned
+        ensures { λ r. ⌜ alignedAnswer r ≡ wholeBytes (self .0) ⌝ }
+    {
+        if self.0 % 8 != 0 {
+            return Aligned::Within;
+        }
+        Aligned::At(BytePos(self.0 / 8))
+    }
+
+    // The byte that the bit here lies in.
+    pub fn holder(self) -> BytePos
+        ensures { λ r. ⌜ r .0 ≡ self .0 / 8 ⌝ }
+    {
+        BytePos(self.0 / 8)
+    }
+
+    // The first byte that starts here or later. Nothing wraps, wherever the place is.
+    pub fn next_byte(self) -> BytePos
+        ensures { λ r. ⌜ r .0 ≡ self .0 / 8 + (self .0 % 8 + 7) / 8 ⌝ }
+    {
+        BytePos(self.0 / 8 + (self.0 % 8 + 7) / 8)
+    }
+}
 
 // The bytes from the one at `from` up to the one at `to`, as one number.
-fn gather(s: &[u8], from: usize, to: usize) -> u64
-    requires { ⌜ (from ≤ to) × (to ≤ length (now s)) × (to - from ≤ 5) × (length (now s) ≤ most) ⌝ }
-    ensures { λ r. ⌜ r ≡ valueAt (now (s .entry)) (8 * from) (8 * (to - from)) ⌝ }
+fn gather(s: &[u8], from: BytePos, to: BytePos) -> u64
+    requires { ⌜ (from .0 ≤ to .0) × (to .0 ≤ length (now s)) × (to .0 - from .0 ≤ 5) × (length (now s) ≤ most) ⌝ }
+    ensures { λ r. ⌜ r ≡ valueAt (now (s .entry)) (8 * from .0) (8 * (to .0 - from .0)) ⌝ }
 {
+    let end = to.0;
     let mut all: u64 = 0;
-    let mut i = from;
-    while i < to {
+    let mut i = from.0;
+    while i < end {
         all = all * 256 + byte_to_u64(s[i]);
         i += 1;
     }
     all
 }
 
-// The n bits from place p.
-pub fn bits_at(s: &[u8], p: usize, n: usize) -> u32
-    requires { ⌜ (p + n ≤ size (now s)) × (n ≤ 32) × (length (now s) ≤ most) ⌝ }
-    ensures { λ r. ⌜ r ≡ valueAt (now (s .entry)) p n ⌝ }
+// The n bits from a place on.
+pub fn bits_at(s: &[u8], at: BitPos, n: usize) -> u32
+    requires { ⌜ (at .0 + n ≤ size (now s)) × (n ≤ 32) × (length (now s) ≤ most) ⌝ }
+    ensures { λ r. ⌜ r ≡ valueAt (now (s .entry)) (at .0) n ⌝ }
 {
-    let to = (p + n + 7) / 8;
-    let all = gather(s, p / 8, to);
-    let below = to * 8 - (p + n);
+    let p = at.0;
+    let end = p + n;
+    let to = BitPos(end).next_byte();
+    let all = gather(s, at.holder(), to);
+    let up = to.0;
+    let below = up * 8 - end;
     ((all >> below) & ((1u64 << n) - 1)) as u32
 }
 
-// The place of the highest one of b, which is byte i or the last bits of it.
-fn top_place(i: usize, b: u32) -> usize
-    requires { ⌜ (0 < b) × (b < 256) × (i ≤ most) ⌝ }
-    ensures { λ r. ⌜ r + 24 ≡ 8 * i + leadingZeros 32 b ⌝ }
+// The place of the highest one of b, which is a byte, or the last bits of it.
+fn top_place(byte: BytePos, b: u32) -> BitPos
+    requires { ⌜ (0 < b) × (b < 256) × (byte .0 ≤ most) ⌝ }
+    ensures { λ r. ⌜ r .0 + 24 ≡ 8 * byte .0 + leadingZeros 32 b ⌝ }
 {
-    8 * i + to_usize(u32::leading_zeros(b)) - 24
+    let i = byte.0;
+    BitPos(8 * i + u32::leading_zeros(b) as usize - 24)
 }
 
-// The place of the first one at or after p, or the end where there is none.
-pub fn first_one(s: &[u8], p: usize) -> usize
-    requires { ⌜ (p ≤ size (now s)) × (length (now s) ≤ most) ⌝ }
-    ensures { λ r. ⌜ FirstFrom (now (s .entry)) p r ⌝ }
+// The place of the first one from a place on, or the end where there is none.
+pub fn first_one(s: &[u8], at: BitPos) -> BitPos
+    requires { ⌜ (at .0 ≤ size (now s)) × (length (now s) ≤ most) ⌝ }
+    ensures { λ r. ⌜ FirstFrom (now (s .entry)) (at .0) (r .0) ⌝ }
 {
-    let mut i = p / 8;
+    let p = at.0;
+    let holder = at.holder();
+    let mut i = holder.0;
     if s.len() <= i {
-        return p;
+        return at;
     }
-    let head = bits_at(s, p, 8 - p % 8);
+    let head = bits_at(s, at, 8 - p % 8);
     if head != 0 {
-        return top_place(i, head);
+        return top_place(holder, head);
     }
     i += 1;
     while i < s.len() {
         let b = byte_to_u32(s[i]);
         if b != 0 {
-            return top_place(i, b);
+            return top_place(BytePos(i), b);
         }
         i += 1;
     }
-    8 * s.len()
+    BitPos(8 * s.len())
 }
 
 // The place after the last one, or 0 where there is none. The search starts at the end, where the stop bit is.
-pub fn after_last(s: &[u8]) -> usize
+pub fn after_last(s: &[u8]) -> BitPos
     requires { ⌜ length (now s) ≤ most ⌝ }
-    ensures { λ r. ⌜ AfterLast (now (s .entry)) r ⌝ }
+    ensures { λ r. ⌜ AfterLast (now (s .entry)) (r .0) ⌝ }
 {
     let mut i = s.len();
     while 0 < i {
         let b = byte_to_u32(s[i - 1]);
         if b != 0 {
-            return 8 * i - to_usize(u32::trailing_zeros(b));
+            return BitPos(8 * i - u32::trailing_zeros(b) as usize);
         }
         i -= 1;
     }
-    0
+    BitPos(0)
 }

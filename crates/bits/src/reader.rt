@@ -2,13 +2,11 @@
 ghost use mathlib.Core.Path.{_≡_};
 ghost use Prim.Native.Nat.{_%_};
 ghost use lib.Dec.{eqb};
-ghost use Rattle.bits.specs.Answer.{newReader, pastEnd, entryAt, Reads, ReadsBit, ReadsSigned, Moves, readBits, readBit, readUe, readSe, skipped, moreAnswer, hasMore, finishRbsp, finishSei, wholeBytes, alignedAnswer};
-use super::Aligned;
+ghost use Rattle.bits.specs.Answer.{newReader, pastEnd, entryAt, Reads, ReadsBit, ReadsSigned, Moves, readBits, readBit, readUe, readSe, skipped, moreAnswer, hasMore, finishRbsp, finishSei};
 use super::Bit;
 use super::BitPos;
 use super::BitReader;
 use super::Bits;
-use super::BytePos;
 use super::More;
 use super::Moved;
 use super::Signed;
@@ -17,18 +15,6 @@ use super::places::after_last;
 use super::places::bits_at;
 use super::places::first_one;
 
-impl BitPos {
-    // The byte that starts here: the one way from a bit's place to a byte's.
-    pub fn byte(self) -> Aligned
-        ensures { λ r. ⌜ alignedAnswer r ≡ wholeBytes (self .0) ⌝ }
-    {
-        if self.0 % 8 != 0 {
-            return Aligned::Within;
-        }
-        Aligned::At(BytePos(self.0 / 8))
-    }
-}
-
 impl BitReader {
     pub fn new() -> Self
         ensures { λ r. ⌜ r ≡ newReader ⌝ }
@@ -36,12 +22,12 @@ impl BitReader {
         BitReader { at: BitPos(0) }
     }
 
-    // Counted in bytes, so that nothing wraps.
+    // Is the position past the end?
     pub fn past_end(self, s: &[u8]) -> bool
         ensures { λ r. ⌜ r ≡ pastEnd (now (s .entry)) (self .at .0) ⌝ }
     {
-        let p = self.at.0;
-        s.len() < p / 8 + (p % 8 + 7) / 8
+        let end = self.at.next_byte().0;
+        s.len() < end
     }
 
     // The checks that every call makes first: 0, or the number of what is wrong.
@@ -64,10 +50,11 @@ impl BitReader {
         }
         let p = self.at.0;
         let n = width as usize;
-        if p + n > 8 * s.len() {
+        let next = p + n;
+        if next > 8 * s.len() {
             return Bits::Refused(desk::BITS_RUN_OUT, self);
         }
-        Bits::Value(bits_at(s, p, n), BitReader { at: BitPos(p + n) })
+        Bits::Value(bits_at(s, self.at, n), BitReader { at: BitPos(next) })
     }
 
     pub fn read_bit(self, s: &[u8]) -> Bit
@@ -89,7 +76,7 @@ impl BitReader {
         }
         let p = self.at.0;
         let end = 8 * s.len();
-        let one = first_one(s, p);
+        let one = first_one(s, self.at).0;
         if end <= one {
             return Bits::Refused(desk::BITS_RUN_OUT, self);
         }
@@ -101,7 +88,7 @@ impl BitReader {
         if next > end {
             return Bits::Refused(desk::BITS_RUN_OUT, self);
         }
-        let v = (1u32 << zeros) - 1 + bits_at(s, one + 1, zeros);
+        let v = (1u32 << zeros) - 1 + bits_at(s, BitPos(one + 1), zeros);
         Bits::Value(v, BitReader { at: BitPos(next) })
     }
 
@@ -145,11 +132,8 @@ impl BitReader {
             return More::Refused(e);
         }
         let p = self.at.0;
-        if p + 1 < after_last(s) {
-            More::Yes
-        } else {
-            More::No
-        }
+        let after = after_last(s).0;
+        if p + 1 < after { More::Yes } else { More::No }
     }
 
     // 0 where the place is that of the stop bit.
@@ -161,7 +145,7 @@ impl BitReader {
             return e;
         }
         let p = self.at.0;
-        let after = after_last(s);
+        let after = after_last(s).0;
         if after <= p {
             return desk::BITS_RUN_OUT;
         }
@@ -183,7 +167,8 @@ impl BitReader {
         if p == 8 * s.len() {
             return desk::DONE;
         }
-        if p + 1 == after_last(s) {
+        let after = after_last(s).0;
+        if p + 1 == after {
             return desk::DONE;
         }
         desk::REMAINING_DATA

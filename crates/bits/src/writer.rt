@@ -1,26 +1,26 @@
 // Writing. The room is lent to each call, which hands over whole bytes and keeps the bits that are left.
 ghost use mathlib.Core.Path.{_≡_};
-ghost use Prim.Native.Nat.{ℕ, _+_, _-_, _*_, _/_, _^_, _≤_, _<_};
+ghost use Prim.Native.Nat.{_+_, _-_, _*_, _/_, _^_, _≤_, _<_};
 ghost use lib.ListN.{length};
 ghost use lib.Dec.{ltb, eqb};
-ghost use lib.IntN.{ℤ};
 ghost use Rattle.desk.specs.Numbers.{most};
 ghost use Rattle.bits.specs.Step.{filled, stored, Good, Fits};
-ghost use Rattle.bits.specs.Answer.{newWriter, badWriter, entryOn, roomed, ueWidth, bitNumber, writeBits, writeBit, writeUe, writeSe, writeTrailing, after, Writes};
+ghost use Rattle.bits.specs.Answer.{newWriter, badWriter, entryOn, roomed, ueWidth, writeBits, writeBit, writeUe, writeSe, writeTrailing, after, Writes};
 use super::BitWriter;
 use super::BytePos;
 use super::Put;
 use super::golomb::prefix_len;
 use super::golomb::unsigned_of;
 
-// The k low bytes of y, from place `at` on.
-fn fill(out: &mut [u8], at: usize, k: usize, y: u64)
-    requires { ⌜ (at + k ≤ length (now out)) × (k ≤ 5) × (length (now out) ≤ most) ⌝ }
-    ensures { λ r. ⌜ now (out .exit) ≡ filled (now (out .entry)) at k y ⌝ }
+// The k low bytes of y, from a place on.
+fn fill(out: &mut [u8], at: BytePos, k: usize, y: u64)
+    requires { ⌜ (at .0 + k ≤ length (now out)) × (k ≤ 5) × (length (now out) ≤ most) ⌝ }
+    ensures { λ r. ⌜ now (out .exit) ≡ filled (now (out .entry)) (at .0) k y ⌝ }
 {
+    let w = at.0;
     let mut j = 0;
     while j < k {
-        out[at + j] = ((y >> (8 * (k - 1 - j))) & 255) as u8;
+        out[w + j] = ((y >> (8 * (k - 1 - j))) & 255) as u8;
         j += 1;
     }
 }
@@ -80,7 +80,7 @@ impl BitWriter {
         let total = self.count as usize + n as usize;
         let rest = total % 8;
         let whole = total / 8;
-        fill(out, w, whole, all >> rest);
+        fill(out, self.written, whole, all >> rest);
         BitWriter {
             written: BytePos(w + whole),
             pending: (all & ((1u64 << rest) - 1)) as u8,

@@ -1,10 +1,10 @@
 -- What is told over a whole trace: the rule's units, by their lengths, and their number.
-use Prim.Native.Nat.{ℕ, zero, suc, _+_, _-_, _%_, _≤_}
+use Prim.Native.Nat.{ℕ, _+_, _-_, _%_}
 use native.Mathlib.Nat.{zero-add, add-zero}
 use native.Mathlib.Omega.{arith}
 use mathlib.Core.Path.{_≡_, refl, ap, ap₂, sym, _∙_, subst⁻¹}
 use mathlib.Core.Bool.{false, cond}
-use mathlib.Core.List.{List, [], _∷_, _++_, map, map-append, append-nil, append-cancel-left, head-eq-of-cons-eq, tail-eq-of-cons-eq}
+use mathlib.Core.List.{List, [], _∷_, _++_, map, map-append, append-cancel-left, head-eq-of-cons-eq, tail-eq-of-cons-eq}
 use lib.ListN.{length, take, length-append, length-map}
 use Rattle.desk.specs.Search.{shown}
 use Rattle.desk.specs.Room.{written}
@@ -12,15 +12,15 @@ use Rattle.desk.specs.Push.{shifted, Seen}
 use Rattle.desk.proofs.Room.{front}
 use Rattle.annexb.specs.declared.AnnexBReader.{AnnexBReader}
 use Rattle.annexb.specs.declared.Pushed.{Pushed}
-use Rattle.annexb.specs.Rule.{Frame, frame, frameFrom, behind, joined, endsFrom, given, ends, unitsAtReset}
-use Rattle.annexb.specs.Seen.{new, rule}
-use Rattle.annexb.specs.Answer.{pushAnswer, resetAnswer, Gave}
-use Rattle.annexb.specs.Calls.{Calls, ByTheRule}
+use Rattle.annexb.specs.Rule.{Frame, frame, frameFrom, joined, endsFrom, ends, unitsAtReset}
+use Rattle.annexb.specs.Answer.{resetAnswer, Gave}
+use Rattle.annexb.specs.Calls.{Calls}
 use Rattle.annexb.proofs.Framing.{split}
 use Rattle.annexb.proofs.Following.{joined-append, ends-append}
-use Rattle.annexb.proofs.Calling.{calls-rule, wrote-bytes, wrote-marks}
+use Rattle.desk.proofs.Cutting.{gave-bytes, gave-marks}
+use Rattle.annexb.proofs.Calling.{calls-rule}
 use Rattle.counting.specs.declared.Tally.{Tally}
-use Rattle.counting.specs.Tally.{wrap, gap, lengths, lastOf, nothing, Tallied}
+use Rattle.counting.specs.Tally.{wrap, gap, lengths, lastOf, Tallied}
 use Rattle.counting.specs.Listing.{Listing, Counted}
 use Rattle.counting.proofs.Gaps.{lengths-long}
 
@@ -101,11 +101,11 @@ listing-rule (Listing.pushed {h} {s} {g} {e} {t} {told} l chunk room marks room�
     let closed : frame h′ .closed ≡ f .closed ++ vs = ap (λ (x : Frame). x .closed) (split false h new-bytes) in
     let c′ = Calls.pushed c chunk room marks room′ marks′ r o in
     let all : length (joined (frame h′ .closed)) + openBytes h′ ≡ length g + r .written =
-    sym (given-long c′) ∙ length-append g (take (r .written) room′) ∙ ap (λ (n : ℕ). length g + n) (ap length (wrote-bytes o) ∙ sym (o .wrote-is)) in
+    sym (given-long c′) ∙ length-append g (take (r .written) room′) ∙ ap (λ (n : ℕ). length g + n) (ap length (gave-bytes o) ∙ sym (o .wrote-is)) in
     let at-ends : endsFrom 0 (frame h′ .closed) ≡ endsFrom 0 (f .closed) ++ shifted (length g) (take (r .marked) marks′) =
     sym (ends-are c′) ∙ ap (λ (l : List ℕ). l ++ shifted (length g) (take (r .marked) marks′)) (ends-are c) in
     subst⁻¹ (λ (us : List (List ℕ)). Counted us (openBytes h′) t′ (told ++ take (r .marked) marks″)) closed
-    (counted-more (listing-rule l) vs (openBytes h′) (length g) (r .written) (take (r .marked) marks′) marks′ marks″ (r .marked) t′ refl (o .marked-is ∙ sym (ap length (wrote-marks o))) (given-long c)
+    (counted-more (listing-rule l) vs (openBytes h′) (length g) (r .written) (take (r .marked) marks′) marks′ marks″ (r .marked) t′ refl (o .marked-is ∙ sym (ap length (gave-marks o))) (given-long c)
     (ap (λ (us : List (List ℕ)). length (joined us) + openBytes h′) (sym closed) ∙ all) (ap (endsFrom 0) (sym closed) ∙ at-ends) d)
 
 -- AFTER A RESET AT THE END: ALL UNITS OF THE RULE
@@ -118,7 +118,7 @@ listing-reset {h} {s} {g} {e} {t} {told} l room marks room′ marks′ marks″ 
     let f = frame h in
     let w = calls-rule (Calls.reset-done c room marks room′ marks′ r o z) .closed-spans .0 in
     let all : length (joined (unitsAtReset h)) + 0 ≡ length g + r .written =
-    add-zero _ ∙ ap length (sym (w .bytes-are)) ∙ length-append g (take (r .written) room′) ∙ ap (λ (n : ℕ). length g + n) (ap length (wrote-bytes o) ∙ sym (o .wrote-is)) in
+    add-zero _ ∙ ap length (sym (w .bytes-are)) ∙ length-append g (take (r .written) room′) ∙ ap (λ (n : ℕ). length g + n) (ap length (gave-bytes o) ∙ sym (o .wrote-is)) in
     let at-ends : endsFrom 0 (unitsAtReset h) ≡ endsFrom 0 (f .closed) ++ shifted (length g) (take (r .marked) marks′) =
     sym (w .ends-are) ∙ ap (λ (l : List ℕ). l ++ shifted (length g) (take (r .marked) marks′)) (ends-are c) in
-    counted-more (listing-rule l) (cond (f .inUnit) (f .rest ∷ []) []) 0 (length g) (r .written) (take (r .marked) marks′) marks′ marks″ (r .marked) t′ refl (o .marked-is ∙ sym (ap length (wrote-marks o))) (given-long c) all at-ends d
+    counted-more (listing-rule l) (cond (f .inUnit) (f .rest ∷ []) []) 0 (length g) (r .written) (take (r .marked) marks′) marks′ marks″ (r .marked) t′ refl (o .marked-is ∙ sym (ap length (gave-marks o))) (given-long c) all at-ends d

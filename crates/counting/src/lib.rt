@@ -3,7 +3,7 @@ ghost use mathlib.Core.Path.{_≡_};
 ghost use Prim.Native.Nat.{_≤_, min};
 ghost use lib.ListN.{length, take};
 ghost use Rattle.desk.specs.Room.{written};
-ghost use Rattle.counting.specs.Tally.{gap, lengths, lastOf, nothing, Tallied};
+ghost use Rattle.counting.specs.Tally.{lengths, lastOf, nothing, Tallied};
 
 // The units that ended so far, and the bytes of the open unit that were given so far. Both are exact below 2^64, and modulo 2^64 from there on.
 pub struct Tally {

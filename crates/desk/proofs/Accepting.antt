@@ -10,7 +10,7 @@ use mathlib.Core.Option.{Option, none, some}
 use lib.ListN.{length, take, drop, getD, length-append, length-take}
 use lib.Seq.{append-snoc, take-suc}
 use borrow.Author.Tests.{ltb-true, ltb-false}
-use Rattle.desk.specs.Push.{Out, Next, Answer, marked, pushOf, Gives, Pushes, Seen, Follows, acceptsBy, accepts, Fits, Longest}
+use Rattle.desk.specs.Push.{Out, Next, Answer, marked, pushOf, Pushes, Seen, Follows, acceptsBy, accepts, Longest}
 use Rattle.desk.proofs.Cutting.{taken-front, pushed-few, pushed-since, pushes-cut}
 use Rattle.desk.proofs.Taking.{push-refused, push-longest}
 
@@ -28,7 +28,7 @@ module _ {S : Type 0} {next : Next S} {s₀ : S} {rule : List ℕ → Seen S} (f
 
   push-accepted : (h chunk : List ℕ) (entry w m : ℕ) → accepts next (rule h .state) (take (pushOf next entry (rule h .state) chunk w m .taken) chunk) ≡ true
   push-accepted h chunk zero w m = push-longest f h chunk w m .accepted
-  push-accepted h chunk (suc n) w m = ap (λ (k : ℕ). accepts next (rule h .state) (take k chunk)) (ap (λ (a : Answer S). a .taken) (push-refused next n (rule h .state) chunk w m))
+  push-accepted h chunk (suc n) w m = ap (λ (k : ℕ). accepts next (rule h .state) (take k chunk)) (ap (λ (a : Answer S). a .taken) (push-refused next (suc n) (rule h .state) chunk w m (λ e. let x : ⊥ = omega arith in x)))
 
   accepted-more : {entry : S → ℕ → ℕ → ℕ → ℕ} {stream : List ℕ} {n : ℕ} {s : S} {given ends : List ℕ} → Pushes next entry s₀ stream n s given ends → accepts next (rule [] .state) (take n stream) ≡ true
       → (e k w m taken : ℕ) → taken ≡ pushOf next e s (take k (drop n stream)) w m .taken → accepts next (rule [] .state) (take (n + taken) stream) ≡ true

@@ -1,19 +1,17 @@
 -- However a stream is cut into pushes, what is handed out is what the rule gives for the bytes taken. For every reader and writer whose step gives its rule.
-use Prim.Native.Nat.{ℕ, zero, suc, _+_, _-_, _≤_, _<_, zero-le, min}
+use Prim.Native.Nat.{ℕ, suc, _+_, _-_, _≤_, zero-le, min}
 use native.Mathlib.Omega.{arith}
-use native.Mathlib.Nat.{add-zero, zero-add, le-refl, le-trans, le-add-right}
-use lib.Dec.{leb, eqb}
+use native.Mathlib.Nat.{add-zero, zero-add}
+use lib.Dec.{eqb}
 use mathlib.Core.Path.{_≡_, refl, ap, ap₂, sym, _∙_, subst, subst⁻¹}
-use mathlib.Core.Bool.{Bool, true, false, cond, _&&_}
-use mathlib.Core.List.{List, [], _∷_, _++_, append-assoc, append-nil, map, map-append}
+use mathlib.Core.Bool.{Bool, true, false, cond}
+use mathlib.Core.List.{List, [], _∷_, _++_, append-assoc, append-nil, map-append}
 use mathlib.Core.Option.{Option, none, some}
-use lib.ListN.{length, take, drop, length-append, length-drop, length-take, length-map}
-use lib.Seq.{append-snoc, take-take, take-add, take-at, take-length}
-use borrow.Author.Tests.{le-leb}
-use Rattle.desk.specs.Room.{written}
-use Rattle.desk.specs.Push.{Out, Next, Answer, answers, marked, took, fits, forbidden, run, pushOf, Gives, shifted, Pushes, Seen, seen, seenAfter, Follows, Cut}
+use lib.ListN.{length, take, drop, length-append, length-drop, length-take}
+use lib.Seq.{append-snoc, take-take, take-add}
+use Rattle.desk.specs.Push.{Out, Next, Answer, answers, marked, took, fits, run, pushOf, Gives, shifted, Pushes, Seen, seen, Follows, Cut}
 use Rattle.desk.proofs.Choice.{cond-by}
-use Rattle.desk.proofs.Room.{front}
+use Rattle.desk.proofs.Room.{front, written-at-least}
 use Rattle.desk.proofs.Pushing.{run-ends, run-takes, run-stops, run-forbidden}
 
 shifted-mark : (k : ℕ) (c : Bool) (l : List ℕ) → shifted k (marked c l) ≡ cond c ((k + length l) ∷ []) []
@@ -23,9 +21,20 @@ shifted-mark k false l = refl
 marked-by : (c : Bool) (l : List ℕ) (k : ℕ) → length l ≡ k → marked c l ≡ cond c (k ∷ []) []
 marked-by c l k e = ap (λ (n : ℕ). cond c (n ∷ []) []) e
 
--- the front of a room that was written
-pub written-front : (n : ℕ) (room bs room′ : List ℕ) → n ≡ length bs → room′ ≡ written room bs → take n room′ ≡ bs
-written-front n room bs room′ e q = ap₂ take e q ∙ front room bs
+pub shifted-none : (l : List ℕ) → shifted 0 l ≡ l
+shifted-none [] = refl
+shifted-none (x ∷ l) = ap₂ {C = List ℕ} _∷_ (zero-add x) (shifted-none l)
+
+-- what a call wrote, read off its rooms
+module _ {S : Type 0} {a : Answer S} {out marks out′ marks′ : List ℕ} {number taken wrote markedN : ℕ} {s : S} (g : Gives a out marks out′ marks′ number taken wrote markedN s) where
+  pub gave-bytes : take wrote out′ ≡ a .bytes
+  gave-bytes = ap₂ take (g .wrote-is) (g .room) ∙ front out (a .bytes)
+
+  pub gave-marks : take markedN marks′ ≡ a .marks
+  gave-marks = ap₂ take (g .marked-is) (g .mark-room) ∙ front marks (a .marks)
+
+  pub gave-marks-fit : markedN ≤ length marks′
+  gave-marks-fit = rw (g .mark-room, g .marked-is) (written-at-least marks (a .marks))
 
 -- what was taken of a push's chunk is the stream's next bytes
 pub taken-front : (n k taken : ℕ) (stream : List ℕ) → taken ≤ length (take k (drop n stream)) → take n stream ++ take taken (take k (drop n stream)) ≡ take (n + taken) stream
@@ -117,9 +126,9 @@ module _ {S : Type 0} {next : Next S} {s₀ : S} {rule : List ℕ → Seen S} (f
       let few : taken ≤ length chunk = omega (arith, p .few, o .taken-is) in
       let lens : length chunk ≡ min k (length stream - n) = length-take k (drop n stream) ∙ ap (min k) (length-drop n stream) in
       let all : h ++ take (a .taken) chunk ≡ take (n + taken) stream = ap (λ (x : ℕ). h ++ take x chunk) (sym (o .taken-is)) ∙ taken-front n k taken stream few in
-      let bytes : rule h .bytes ++ a .bytes ≡ given ++ take wrote out′ = ap₂ _++_ (ap (λ (v : Seen S). v .bytes) e) (sym (written-front wrote out (a .bytes) out′ (o .wrote-is) (o .room))) in
+      let bytes : rule h .bytes ++ a .bytes ≡ given ++ take wrote out′ = ap₂ _++_ (ap (λ (v : Seen S). v .bytes) e) (sym (gave-bytes o)) in
       let marksE : rule h .ends ++ shifted (length (rule h .bytes)) (a .marks) ≡ ends ++ shifted (length given) (take markedN marks′) =
-      ap₂ _++_ (ap (λ (v : Seen S). v .ends) e) (ap₂ shifted (ap (λ (v : Seen S). length (v .bytes)) e) (sym (written-front markedN marks (a .marks) marks′ (o .marked-is) (o .mark-room)))) in
+      ap₂ _++_ (ap (λ (v : Seen S). v .ends) e) (ap₂ shifted (ap (λ (v : Seen S). length (v .bytes)) e) (sym (gave-marks o))) in
       record { within = omega (arith, c .within); rule-gives = ap rule (sym all) ∙ p .since .seen-is ∙ (λ i. seen (sym (o .state-is) i) (bytes i) (marksE i)) }
 
   -- AFTER EACH PUSH, HOWEVER THE STREAM IS CUT

@@ -6,6 +6,7 @@ pub mod Cutting
 pub mod Entering
 pub mod Lists
 pub mod Pushing
+pub mod Restarting
 pub mod Room
 pub mod Search
 pub mod Taking

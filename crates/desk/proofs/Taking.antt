@@ -1,24 +1,24 @@
 -- A push takes the longest front that it may: up to a forbidden byte, or to the first byte whose releases do not fit.
 use Prim.Native.Nat.{ℕ, zero, suc, _+_, _-_, _≤_, _<_, zero-le}
 use native.Mathlib.Omega.{arith}
-use native.Mathlib.Nat.{add-zero, zero-add, le-refl, le-trans, le-of-eq, not-suc-le-zero}
-use lib.Dec.{leb, eqb, eqb·suc-zero}
+use native.Mathlib.Nat.{add-zero, le-refl, le-of-eq, not-suc-le-zero}
+use lib.Dec.{leb}
 use mathlib.Core.Path.{_≡_, refl, ap, ap₂, sym, _∙_, subst, subst⁻¹}
-use mathlib.Core.Bool.{Bool, true, false, cond, _&&_, false≢true}
-use mathlib.Core.List.{List, [], _∷_, _++_, append-assoc, append-nil, map}
+use mathlib.Core.Bool.{Bool, true, false, _&&_, false≢true}
+use mathlib.Core.List.{List, [], _∷_, _++_, append-nil}
 use mathlib.Core.Option.{Option, none, some}
-use lib.ListN.{length, take, drop, getD, length-append, length-map}
+use lib.ListN.{length, take, getD, length-append, length-map}
 use lib.Seq.{append-snoc, take-length}
-use borrow.Author.Tests.{le-leb, leb-true, leb-false}
-use Rattle.desk.specs.Push.{Out, Next, Answer, answers, marked, took, fits, forbidden, run, pushOf, Gives, shifted, Seen, seen, seenAfter, Follows, acceptsBy, accepts, Fits, Longest, WholePush}
+use borrow.Author.Tests.{le-leb, leb-true, ne-eqb}
+use Rattle.desk.specs.Push.{Out, Next, Answer, answers, marked, took, fits, forbidden, run, pushOf, shifted, Seen, seen, Follows, acceptsBy, accepts, Fits, Longest, WholePush}
 use Rattle.desk.proofs.Choice.{and-left, and-right}
 use Rattle.desk.proofs.Pushing.{run-ends, run-takes, run-stops, run-forbidden}
-use Rattle.desk.proofs.Cutting.{Since, since-none, since-more, pushed-since}
+use Rattle.desk.proofs.Cutting.{Since, since-none, since-more, pushed-since, shifted-none}
 
 -- a push that the entry checks refuse
-pub push-refused : {S : Type 0} (next : Next S) (n : ℕ) (s : S) (chunk : List ℕ) (w m : ℕ) → pushOf next (suc n) s chunk w m ≡ answers (suc n) s
+pub push-refused : {S : Type 0} (next : Next S) (n : ℕ) (s : S) (chunk : List ℕ) (w m : ℕ) → (n ≡ 0 → ⊥) → pushOf next n s chunk w m ≡ answers n s
 unfolding pushOf
-push-refused next n s chunk w m = rw (eqb·suc-zero n)
+push-refused next n s chunk w m h = rw (ne-eqb n 0 h)
 
 -- taken never falls
 run-more : {S : Type 0} (next : Next S) (w m : ℕ) (a : Answer S) (bs : List ℕ) → a .taken ≤ run next w m a bs .taken
@@ -223,19 +223,6 @@ module _ {S : Type 0} {next : Next S} {s₀ : S} {rule : List ℕ → Seen S} (f
       let n = l .longest (length chunk) (le-refl _) (subst (λ (c : List ℕ). accepts next (rule h .state) c ≡ true) whole acc) (subst (λ (c : List ℕ). Fits rule h c w m) whole fit) in
       let all : pushOf next 0 (rule h .state) chunk w m .taken ≡ length chunk = omega (arith, n, l .few) in
       (all, l .number-0 (λ z. let k = l .number-7 z in let x : ⊥ = omega (arith, k .0) in x) .0)
-
-  -- a push takes at least one byte, where all that it releases fits
-  pub takes-one : (h : List ℕ) (b : ℕ) (bs : List ℕ) (w m : ℕ) (o : Out S) → next (rule h .state) b ≡ some o → length (o .bytes) ≤ w → length (marked (o .mark) (rule h .bytes)) ≤ m
-      → 1 ≤ pushOf next 0 (rule h .state) (b ∷ bs) w m .taken
-  takes-one h b bs w m o e x y =
-      let q = f .more h b o e in
-      let g : length (rule (h ++ b ∷ []) .bytes) ≡ length (rule h .bytes) + length (o .bytes) = ap (λ (v : Seen S). length (v .bytes)) q ∙ length-append (rule h .bytes) (o .bytes) in
-      let d : length (rule (h ++ b ∷ []) .ends) ≡ length (rule h .ends) + length (marked (o .mark) (rule h .bytes)) = ap (λ (v : Seen S). length (v .ends)) q ∙ length-append (rule h .ends) _ in
-      push-longest h (b ∷ bs) w m .longest 1 (omega arith) (ap (λ (r : Option (Out S)). acceptsBy r (λ o. true)) e) (record { bytes-fit = omega (arith, g); ends-fit = omega (arith, d) })
-
-  shifted-none : (l : List ℕ) → shifted 0 l ≡ l
-  shifted-none [] = refl
-  shifted-none (x ∷ l) = ap₂ {C = List ℕ} (λ y r. y ∷ r) (zero-add x) (shifted-none l)
 
   -- ONE PUSH FROM THE START takes a whole list and gives what the rule gives for it, wherever no byte is forbidden and the rooms hold that
   pub whole-push : (chunk : List ℕ) (w m : ℕ) → accepts next s₀ chunk ≡ true → length (rule chunk .bytes) ≤ w → length (rule chunk .ends) ≤ m → WholePush rule chunk (pushOf next 0 s₀ chunk w m)

@@ -1,7 +1,7 @@
 -- A PUSH, WHATEVER THE READER OR WRITER IS: bytes are taken from the front, one after another, while all that the next byte releases fits.
 -- What one byte does is the crate's own (`Next`); what a push makes of it, and what pushes come to however a stream is cut, is said here once.
 -- Assumes nothing: these are definitions.
-use Prim.Native.Nat.{ℕ, zero, suc, _+_, _≤_, _<_}
+use Prim.Native.Nat.{ℕ, _+_, _≤_, _<_}
 use mathlib.Core.Path.{_≡_}
 use mathlib.Core.Bool.{Bool, true, false, cond, _&&_}
 use mathlib.Core.List.{List, [], _∷_, _++_, map}

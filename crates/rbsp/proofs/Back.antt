@@ -1,12 +1,12 @@
 -- There and back: escaped bytes are legal and unescape to what was written; a legal list that does not end in a removed 03 is the escape of its unescape.
-use Prim.Native.Nat.{ℕ, zero, suc, _+_, _≤_, _<_}
+use Prim.Native.Nat.{ℕ, zero, suc, _+_, _≤_}
 use native.Mathlib.Omega.{arith}
 use mathlib.Core.Path.{_≡_, refl, ap, ap₂, sym, _∙_, subst}
 use mathlib.Core.Bool.{Bool, true, false, cond, not, _&&_, false≢true, and-false}
 use mathlib.Core.List.{List, [], _∷_, _++_, append-assoc, append-nil}
 use mathlib.Core.Option.{Option, none, some}
-use lib.ListN.{length, drop}
-use Rattle.desk.specs.Search.{is0, is3, upTo2, upTo3, stands, trail, two, zerosAfter}
+use lib.ListN.{length}
+use Rattle.desk.specs.Search.{is3, upTo2, upTo3, trail, two}
 use Rattle.desk.proofs.Lists.{snoc-ind, trail-few}
 use Rattle.desk.proofs.Search.{trail-more, none≢some}
 use Rattle.rbsp.specs.Rule.{escape, unescape, Legal, firstBreak, endsThree}

@@ -1,21 +1,21 @@
 -- What shall not occur (Rec 7.4.1): the first break is the first, both directions; one byte more; and the reader forbids exactly the byte that completes it.
-use Prim.Native.Nat.{ℕ, zero, suc, _+_, _-_, _≤_, _<_, zero-le}
+use Prim.Native.Nat.{ℕ, zero, suc, _+_, _-_, _<_}
 use native.Mathlib.Nat.{not-suc-le-zero, le-of-suc-le-suc}
 use native.Mathlib.Omega.{arith}
-use mathlib.Core.Path.{_≡_, refl, ap, ap₂, sym, _∙_, subst}
+use mathlib.Core.Path.{_≡_, refl, ap, sym, _∙_}
 use mathlib.Core.Bool.{Bool, true, false, cond, not, _&&_, false≢true}
-use mathlib.Core.List.{List, [], _∷_, _++_, append-nil}
+use mathlib.Core.List.{List, [], _∷_, _++_}
 use mathlib.Core.Logic.{_⊎_, inl, inr}
 use mathlib.Core.Option.{Option, none, some, Option·some-injective}
 use lib.ListN.{length, drop}
-use lib.Seq.{append-snoc, drop-nil}
-use Rattle.desk.specs.Push.{Out, acceptsBy, accepts}
-use Rattle.desk.specs.Search.{is0, is3, upTo2, upTo3, stands, next as further, trail, two}
+use lib.Seq.{drop-nil}
+use Rattle.desk.specs.Push.{Out}
+use Rattle.desk.specs.Search.{upTo2, upTo3, stands, next as further, trail, two}
 use Rattle.desk.proofs.Search.{none≢some}
 use Rattle.rbsp.specs.Rule.{Legal, badFour, firstBreak, endsThree}
-use Rattle.rbsp.specs.Step.{takes, next, skipping, readerAt}
+use Rattle.rbsp.specs.Step.{next, readerAt}
 use Rattle.rbsp.specs.declared.reader.ParseState.{ParseState}
-use Rattle.rbsp.specs.declared.reader.ParseState.the-variants.{Start, Skip, PostThree}
+use Rattle.rbsp.specs.declared.reader.ParseState.the-variants.{Start, PostThree}
 
 -- ---- the first break is the first
 

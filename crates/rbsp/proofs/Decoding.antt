@@ -1,27 +1,27 @@
 -- A whole NAL: the first pass over its tail, and the answer by the rule.
-use Prim.Native.Nat.{ℕ, zero, suc, _+_, _-_, _≤_, _<_, min}
+use Prim.Native.Nat.{ℕ, suc, _+_, _-_, _≤_, _<_}
 use native.Mathlib.Omega.{arith}
 use native.Mathlib.Numerals.{add-one}
-use mathlib.Core.Path.{_≡_, refl, ap, ap₂, sym, _∙_, subst, subst⁻¹}
+use mathlib.Core.Path.{_≡_, refl, ap, ap₂, sym, _∙_, subst}
 use mathlib.Core.Bool.{Bool, true, false, cond, _&&_, false≢true}
 use mathlib.Core.List.{List, [], _∷_, _++_}
-use mathlib.Core.Option.{Option, none, some, Option·some-injective}
+use mathlib.Core.Option.{Option, none, some}
 use lib.ListN.{length, take, drop, getD, replicate, length-append, length-replicate, length-take, length-drop}
-use lib.Seq.{take-suc, split-at, append-snoc, length-take-le}
+use lib.Seq.{take-suc, split-at, length-take-le}
 use lib.Dec.{ltb}
 use borrow.Author.Tests.{le-ltb, lt-ltb}
 use Rattle.desk.specs.Numbers.{most, anyOver, entryOf}
-use Rattle.desk.specs.Push.{Out, Seen, seen, pushOf, Gives, WholePush}
+use Rattle.desk.specs.Push.{Seen, pushOf}
 use Rattle.desk.specs.Room.{written}
-use Rattle.desk.specs.Search.{is0, is3, stands, first, trail, two}
+use Rattle.desk.specs.Search.{is3, stands, first, trail, two}
 use Rattle.desk.proofs.Entering.{entry-done, entry-passed}
 use Rattle.desk.proofs.Lists.{snoc-ind}
 use Rattle.desk.proofs.Room.{written-none}
-use Rattle.desk.proofs.Search.{none≢some, first-is}
+use Rattle.desk.proofs.Search.{first-is}
 use Rattle.desk.proofs.Taking.{whole-push}
 use Rattle.rbsp.specs.Rule.{unescape, firstBreak}
-use Rattle.rbsp.specs.Step.{takes, next, skipping, readerAt, reads, readEntry}
-use Rattle.rbsp.specs.Answer.{Decoding, refuses, decodeNal, decodeTail, decodeKept, decodeOf, numberOf, valueOf, Decodes, Fillable, Surveys, ReadPush}
+use Rattle.rbsp.specs.Step.{takes, next, skipping, readerAt, readEntry}
+use Rattle.rbsp.specs.Answer.{refuses, decodeTail, decodeKept, decodeOf, numberOf, valueOf, Decodes, Fillable, Surveys, ReadPush}
 use Rattle.rbsp.specs.declared.nal.Decoded.{Decoded}
 use Rattle.rbsp.specs.declared.nal.Decoded.the-variants.{Own, Filled, TooLong, Empty, Forbidden, NoRoom}
 use Rattle.rbsp.specs.declared.nal.Surveyed.{Surveyed}

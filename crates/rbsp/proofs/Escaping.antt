@@ -1,14 +1,14 @@
 -- Writing: the rule by places, one byte more, and the writer's step gives the rule.
-use Prim.Native.Nat.{ℕ, zero, suc, _+_, _≤_, _<_}
+use Prim.Native.Nat.{ℕ, zero, suc, _+_, _≤_}
 use native.Mathlib.Nat.{not-suc-le-zero}
 use native.Mathlib.Omega.{arith}
-use mathlib.Core.Path.{_≡_, refl, ap, ap₂, sym, _∙_}
-use mathlib.Core.Bool.{Bool, true, false, cond, _&&_, false≢true}
+use mathlib.Core.Path.{_≡_, refl, ap, sym, _∙_}
+use mathlib.Core.Bool.{Bool, true, false, cond}
 use mathlib.Core.List.{List, [], _∷_, _++_, append-assoc}
 use mathlib.Core.Option.{Option, none, some, Option·some-injective}
 use lib.ListN.{length, take, drop, length-drop}
-use Rattle.desk.specs.Push.{Out, Seen, seen, seenAfter, Follows}
-use Rattle.desk.specs.Search.{is0, upTo3, stands, next as further, first, trail, two, zerosAfter}
+use Rattle.desk.specs.Push.{Out, seen, seenAfter, Follows}
+use Rattle.desk.specs.Search.{upTo3, stands, next as further, first, trail, zerosAfter}
 use Rattle.desk.proofs.Choice.{ap-cond, cond-ind}
 use Rattle.desk.proofs.Lists.{snoc-ind, trail-past, trail-cons}
 use Rattle.desk.proofs.Search.{trail-more, stays}

@@ -1,19 +1,19 @@
 -- The reader accepts exactly what is legal, with the first k bytes dropped unexamined.
-use Prim.Native.Nat.{ℕ, zero, suc, _+_, _-_, _≤_, _<_}
+use Prim.Native.Nat.{ℕ, _+_, _-_, _≤_}
 use native.Mathlib.Nat.{le-of-lt}
 use native.Mathlib.Omega.{arith}
-use mathlib.Core.Path.{_≡_, refl, ap, sym, _∙_, subst}
+use mathlib.Core.Path.{_≡_, refl, ap, sym, _∙_}
 use mathlib.Core.Bool.{Bool, true, false, false≢true}
 use mathlib.Core.List.{List, [], _∷_, _++_, append-nil}
 use mathlib.Core.Option.{Option, none, some}
-use lib.ListN.{length, take, drop, length-append, drop-of-length-le}
+use lib.ListN.{length, drop, length-append, drop-of-length-le}
 use lib.Seq.{append-snoc, drop-append-le, drop-nil}
 use lib.Dec.{leb}
 use borrow.Author.Tests.{leb-true, leb-false}
 use Rattle.desk.specs.Push.{Out, Seen, acceptsBy, accepts}
 use Rattle.desk.proofs.Search.{none≢some}
 use Rattle.rbsp.specs.Rule.{firstBreak}
-use Rattle.rbsp.specs.Step.{next, skipping, readerAt, reads}
+use Rattle.rbsp.specs.Step.{next, skipping, readerAt}
 use Rattle.rbsp.specs.declared.reader.ParseState.{ParseState}
 use Rattle.rbsp.proofs.Breaking.{break-stays, taken-unbroken, forbidden-breaks}
 use Rattle.rbsp.proofs.Unescaping.{reader-new, read-follows}

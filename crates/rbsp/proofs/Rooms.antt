@@ -1,23 +1,21 @@
 -- THE ROOM RULE: room 1 takes a byte on reading and room 2 on writing, from any saved state that is not bad; a push with enough room takes everything up
 -- to a forbidden byte.
-use Prim.Native.Nat.{ℕ, zero, suc, _+_, _*_, _≤_, _<_, zero-le}
+use Prim.Native.Nat.{ℕ, _*_, _≤_, zero-le}
 use native.Mathlib.Omega.{arith}
 use native.Mathlib.Nat.{le-refl, zero-mul}
-use mathlib.Core.Path.{_≡_, refl, ap, sym, _∙_, subst}
-use mathlib.Core.Bool.{Bool, true, false, cond, _&&_}
-use mathlib.Core.List.{List, [], _∷_, _++_, append-nil}
+use mathlib.Core.Path.{_≡_, refl, sym, subst}
+use mathlib.Core.Bool.{Bool, true, false, cond}
+use mathlib.Core.List.{List, [], _∷_}
 use mathlib.Core.Option.{none, some, Option·some-injective}
 use lib.Dec.{ltb}
 use lib.ListN.{length, getD}
-use lib.Seq.{append-snoc}
 use Rattle.desk.specs.Numbers.{most}
-use Rattle.desk.specs.Push.{Out, marked, pushOf, accepts, Fits}
-use Rattle.desk.specs.Search.{is3, trail, two, zerosAfter}
+use Rattle.desk.specs.Push.{Out, marked, pushOf}
+use Rattle.desk.specs.Search.{zerosAfter}
 use Rattle.desk.proofs.Entering.{entry-done}
 use Rattle.desk.proofs.Accepting.{enough-room}
 use Rattle.desk.proofs.Taking.{takes-first, push-longest}
-use Rattle.rbsp.specs.Rule.{escape, unescape, firstBreak}
-use Rattle.rbsp.specs.Step.{next, skipping, badState, readEntry, readerAt, reads, stuffs, escapes, writeEntry, writes, zeros}
+use Rattle.rbsp.specs.Step.{next, badState, readEntry, readerAt, stuffs, escapes, writeEntry, writes, zeros}
 use Rattle.rbsp.specs.declared.reader.ParseState.{ParseState}
 use Rattle.rbsp.specs.declared.writer.ByteWriter.{ByteWriter}
 use Rattle.rbsp.proofs.Escaping.{write-follows}

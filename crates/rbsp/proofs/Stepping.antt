@@ -1,16 +1,15 @@
 -- The steps, by the cases of the code.
 use Prim.Native.Nat.{ℕ, zero, suc, _-_, _≤_, _<_}
 use native.Mathlib.Omega.{arith}
-use mathlib.Core.Path.{_≡_, refl, sym, ap, _∙_}
-use mathlib.Core.Bool.{Bool, true, false, cond, _&&_}
-use mathlib.Core.List.{[], _∷_}
+use mathlib.Core.Path.{_≡_, refl, ap, _∙_}
+use mathlib.Core.Bool.{Bool, true, false, _&&_}
+use mathlib.Core.List.{[]}
 use mathlib.Core.Option.{some}
-use Rattle.desk.specs.Search.{two, upTo3, zerosAfter}
+use Rattle.desk.specs.Search.{two, zerosAfter}
 use Rattle.desk.proofs.Bytes.{not-0, up-to-3, above-3, is-two, not-two}
 use Rattle.rbsp.specs.declared.reader.ParseState.{ParseState}
-use Rattle.rbsp.specs.declared.reader.ParseState.the-variants.{Start, Skip, PostThree}
-use Rattle.rbsp.specs.declared.writer.Stuffed.{Stuffed}
-use Rattle.rbsp.specs.Step.{takes, skipping, next, zeros, stuffs, escapes, Does}
+use Rattle.rbsp.specs.declared.reader.ParseState.the-variants.{Skip}
+use Rattle.rbsp.specs.Step.{takes, skipping, next, zeros, Does}
 
 pub skip-some : (k : ℕ) → (k ≡ 0 → ⊥) → Skip k ≡ skipping k
 skip-some zero h = absurd (h refl)

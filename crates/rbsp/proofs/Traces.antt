@@ -1,30 +1,28 @@
 -- READING AND WRITING, however the bytes are cut into pushes and whatever room is lent.
-use Prim.Native.Nat.{ℕ, zero, suc, _+_, _-_, _≤_, _<_, min}
+use Prim.Native.Nat.{ℕ, zero, suc, _+_, _-_, _≤_, _<_}
 use native.Mathlib.Omega.{arith}
-use native.Mathlib.Nat.{add-zero}
 use mathlib.Core.Path.{_≡_, refl, ap, ap₂, sym, _∙_, subst}
-use mathlib.Core.Bool.{Bool, true, false, cond}
-use mathlib.Core.List.{List, [], _∷_, _++_}
-use mathlib.Core.Option.{Option, none, some}
-use lib.ListN.{length, take, drop, getD, length-append, length-take, length-drop, take-append-drop}
+use mathlib.Core.List.{List, [], _∷_}
+use mathlib.Core.Option.{none, some}
+use lib.ListN.{length, take, drop, getD, length-take, length-drop}
 use lib.Seq.{getD-take, getD-drop, split-at, length-take-le, take-length}
-use Rattle.desk.specs.Push.{Answer, Seen, pushOf, Gives, Pushes, accepts}
+use Rattle.desk.specs.Push.{Answer, Seen, pushOf, accepts}
 use Rattle.desk.specs.Push.Pushes.{one-more}
 use Rattle.desk.specs.Search.{trail}
-use Rattle.desk.proofs.Cutting.{pushes-cut, taken-front}
+use Rattle.desk.proofs.Cutting.{pushes-cut}
 use Rattle.desk.proofs.Entering.{entry-few}
 use Rattle.desk.proofs.Search.{none≢some}
 use Rattle.desk.proofs.Accepting.{pushes-accepted}
 use Rattle.desk.proofs.Taking.{push-refused, push-longest}
-use Rattle.rbsp.specs.Rule.{escape, unescape, Legal, firstBreak}
-use Rattle.rbsp.specs.Step.{next, skipping, badState, readEntry, readerAt, reads, escapes, writeEntry, writes, zeros}
+use Rattle.rbsp.specs.Rule.{unescape, Legal, firstBreak}
+use Rattle.rbsp.specs.Step.{next, badState, readEntry, readerAt, zeros}
 use Rattle.rbsp.specs.Promise.{Reads, ReadsOn, Writes, Reading, Seventh, Writing}
 use Rattle.rbsp.specs.declared.reader.ParseState.{ParseState}
 use Rattle.rbsp.specs.declared.writer.ByteWriter.{ByteWriter}
 use Rattle.rbsp.proofs.Back.{unescape-escape, escape-legal}
 use Rattle.rbsp.proofs.Breaking.{none-legal, legal-none}
 use Rattle.rbsp.proofs.Escaping.{write-follows}
-use Rattle.rbsp.proofs.Legality.{front-unbroken, forbidden-broken, accepts-legal}
+use Rattle.rbsp.proofs.Legality.{forbidden-broken, accepts-legal}
 use Rattle.rbsp.proofs.Unescaping.{reader-new, read-follows}
 
 unbroken-so-far : (skip : ℕ) {stream : List ℕ} {n : ℕ} {s : ParseState} {given ends : List ℕ} → Reads skip stream n s given ends → firstBreak (drop skip (take n stream)) ≡ none
@@ -49,7 +47,7 @@ next-byte stream n k t h = getD-take k (drop n stream) t 0 (omega (arith, length
 entered : (s : ParseState) (chunk : List ℕ) (w m e : ℕ) → e ≤ 2 → pushOf next e s chunk w m .number ≡ 7 → e ≡ 0
 entered s chunk w m zero h z = refl
 entered s chunk w m (suc e) h z =
-    let q : suc e ≡ 7 = sym (ap (λ (a : Answer ParseState). a .number) (push-refused next e s chunk w m)) ∙ z in
+    let q : suc e ≡ 7 = sym (ap (λ (a : Answer ParseState). a .number) (push-refused next (suc e) s chunk w m (λ f. let x : ⊥ = omega arith in x))) ∙ z in
     let x : ⊥ = omega arith in absurd x
 
 -- A 7'S INDEX IS THE LAST BYTE OF THE FIRST WINDOW THAT BREAKS THE PROHIBITION

@@ -1,22 +1,22 @@
 -- Reading: the rule by places is the syntax table of Rec 7.3.1; one byte more; and the reader's step gives the rule.
-use Prim.Native.Nat.{ℕ, zero, suc, _+_, _≤_, _<_}
+use Prim.Native.Nat.{ℕ, zero, suc, _+_, _≤_}
 use native.Mathlib.Nat.{not-suc-le-zero}
 use native.Mathlib.Omega.{arith}
-use mathlib.Core.Path.{_≡_, refl, ap, ap₂, sym, _∙_, subst}
+use mathlib.Core.Path.{_≡_, refl, ap, ap₂, sym, _∙_}
 use mathlib.Core.Bool.{Bool, true, false, cond, _&&_, false≢true}
 use mathlib.Core.List.{List, [], _∷_, _++_, append-nil}
 use mathlib.Core.Option.{Option, none, some, Option·some-injective}
 use lib.ListN.{length, take, drop}
 use lib.Seq.{drop-nil}
-use Rattle.desk.specs.Push.{Out, Seen, seen, seenAfter, Follows}
+use Rattle.desk.specs.Push.{Out, seen, seenAfter, Follows}
 use Rattle.desk.specs.Search.{is0, is3, stands, next as further, first, trail, two, zerosAfter}
-use Rattle.desk.proofs.Choice.{ap-cond, and-left, and-right}
+use Rattle.desk.proofs.Choice.{ap-cond, and-right}
 use Rattle.desk.proofs.Lists.{trail-past}
 use Rattle.desk.proofs.Search.{trail-more, stays}
 use Rattle.rbsp.specs.Rule.{Unescapes, unescape, unescapeAt, unescapeBy, endsThree}
-use Rattle.rbsp.specs.Step.{takes, scan, skipping, next, readerAt, reads}
+use Rattle.rbsp.specs.Step.{takes, skipping, next, readerAt, reads}
 use Rattle.rbsp.specs.declared.reader.ParseState.{ParseState}
-use Rattle.rbsp.specs.declared.reader.ParseState.the-variants.{Start, Skip, PostThree}
+use Rattle.rbsp.specs.declared.reader.ParseState.the-variants.{Start, PostThree}
 
 -- the syntax table: 00 00 03 gives 00 00, and any other byte itself
 abbrev pub table : List ℕ → List ℕ

@@ -1,12 +1,12 @@
 -- ONE OUTCOME for each public call: two results and two rooms that meet its contract are equal.
 use Prim.Native.Nat.{ℕ}
-use mathlib.Core.Path.{_≡_, refl, ap, sym, _∙_}
+use mathlib.Core.Path.{_≡_, refl, sym, _∙_}
 use mathlib.Core.Bool.{cond}
 use mathlib.Core.List.{List}
 use mathlib.Core.Option.{Option, none, some}
 use lib.Dec.{eqb}
 use Rattle.desk.proofs.Unique.{one-outcome}
-use Rattle.rbsp.specs.Answer.{ReadPush, WritePush, numberOf, valueOf, Decodes, shownOf}
+use Rattle.rbsp.specs.Answer.{ReadPush, WritePush, numberOf, valueOf, Decodes}
 use Rattle.rbsp.specs.declared.nal.Decoded.{Decoded}
 use Rattle.rbsp.specs.declared.nal.Decoded.the-variants.{Own, Filled, TooLong, Empty, Forbidden, NoRoom}
 use Rattle.rbsp.specs.declared.reader.ParseState.{ParseState}

@@ -2,11 +2,11 @@
 -- Nothing here knows of a reader's or a writer's step. Assumes nothing: these are definitions.
 use Prim.Native.Nat.{ℕ, zero, suc}
 use mathlib.Core.Path.{_≡_}
-use mathlib.Core.Bool.{Bool, true, false, cond, not, _&&_}
+use mathlib.Core.Bool.{Bool, false, cond, not, _&&_}
 use mathlib.Core.List.{List, [], _∷_, _++_}
 use mathlib.Core.Option.{Option, none, some}
 use lib.ListN.{length, take, drop}
-use Rattle.desk.specs.Search.{is0, is3, upTo2, upTo3, stands, next, first}
+use Rattle.desk.specs.Search.{is3, upTo2, upTo3, stands, next, first}
 
 -- ---- WRITING (Rec 7.4.1), two sentences: `Escapes s t` says that the RBSP s is written as t. Where 00 00 and a byte 00 to 03 stand nowhere, it is written as
 -- it is; where they first stand at place i, 03 goes between, and the search goes on from the byte behind the 03, with nothing remembered.

@@ -1,14 +1,14 @@
 -- What one byte does, and the state after any bytes. Assumes nothing: these are definitions.
-use Prim.Native.Nat.{ℕ, zero, suc, _+_, _≤_}
+use Prim.Native.Nat.{ℕ, zero, suc, _≤_}
 use mathlib.Core.Path.{_≡_}
-use mathlib.Core.Bool.{Bool, true, false, cond, _&&_}
-use mathlib.Core.List.{List, [], _∷_, _++_}
+use mathlib.Core.Bool.{Bool, false, cond, _&&_}
+use mathlib.Core.List.{List, [], _∷_}
 use mathlib.Core.Option.{Option, none, some}
-use lib.ListN.{length, drop, replicate}
+use lib.ListN.{drop, replicate}
 use lib.Dec.{ltb}
 use Rattle.desk.specs.Numbers.{entryOf}
 use Rattle.desk.specs.Push.{Out, Next, Seen, seen}
-use Rattle.desk.specs.Search.{is0, is3, upTo2, upTo3, two, trail, zerosAfter}
+use Rattle.desk.specs.Search.{is3, upTo2, upTo3, two, trail, zerosAfter}
 use Rattle.rbsp.specs.Rule.{escape, unescape, endsThree}
 use Rattle.rbsp.specs.declared.reader.ParseState.{ParseState}
 use Rattle.rbsp.specs.declared.reader.ParseState.the-variants.{Start, Skip, PostThree}

@@ -1,28 +1,23 @@
 -- What is written behind start codes comes back unit for unit.
 use Prim.Native.Nat.{ℕ, zero, suc, _+_, _-_, zero-le}
 use native.Mathlib.Omega.{arith}
-use mathlib.Core.Path.{_≡_, refl, ap, ap₂, sym, _∙_, subst}
-use mathlib.Core.Bool.{Bool, true, false, cond, _&&_, and-false}
-use mathlib.Core.List.{List, [], _∷_, _++_, append-nil, append-assoc, map}
-use mathlib.Core.Option.{Option, none, some}
-use lib.ListN.{length, take, drop, length-append, length-map}
+use mathlib.Core.Path.{_≡_, refl, ap, ap₂, sym, _∙_}
+use mathlib.Core.Bool.{Bool, true, false, _&&_}
+use mathlib.Core.List.{List, [], _∷_, _++_, append-nil, map}
+use mathlib.Core.Option.{none}
+use lib.ListN.{length, take, drop, length-map}
 use lib.Seq.{take-length, take-at, drop-at}
 use Rattle.desk.specs.Push.{Seen, seen, shifted}
-use Rattle.desk.specs.Search.{is0, upTo1, upTo2, stands, next, first, trail, zerosAfter}
+use Rattle.desk.specs.Search.{is0, upTo1, upTo2, stands, first, trail}
 use Rattle.desk.proofs.Bytes.{not-0}
-use Rattle.desk.proofs.Cutting.{written-front}
-use Rattle.desk.proofs.Lists.{snoc-ind}
-use Rattle.desk.proofs.Search.{trail-more}
-use Rattle.rbsp.specs.Rule.{escape, unescape, Legal}
-use Rattle.rbsp.specs.Promise.{Reads}
-use Rattle.rbsp.specs.Step.{stuffs}
-use Rattle.rbsp.specs.declared.reader.ParseState.{ParseState}
+use Rattle.desk.proofs.Cutting.{gave-bytes, gave-marks}
+use Rattle.rbsp.specs.Rule.{escape, unescape}
 use Rattle.rbsp.proofs.Escaping.{escape-trail}
 use Rattle.rbsp.proofs.Traces.{reading, writing}
 use Rattle.annexb.specs.Answer.{resetAnswer}
-use Rattle.annexb.specs.Rule.{Frame, frame, givenOf, endsOf, unitsOf, unitsAtReset, joined, endsFrom}
-use Rattle.annexb.specs.Seen.{new, stateIn, seenIn}
-use Rattle.annexb.specs.Syntax.{ByteStreamNalUnit, allBytes, byteStream, Allowed, AllAllowed, NoneJoin, nalUnits}
+use Rattle.annexb.specs.Rule.{frame, givenOf, endsOf, unitsAtReset, joined, endsFrom}
+use Rattle.annexb.specs.Seen.{stateIn, seenIn}
+use Rattle.annexb.specs.Syntax.{ByteStreamNalUnit, byteStream, Allowed, AllAllowed, NoneJoin, nalUnits}
 use Rattle.annexb.specs.declared.AnnexBReader.{AnnexBReader}
 use Rattle.annexb.proofs.Completing.{reset-completes}
 use Rattle.annexb.proofs.Laws.{pushes-rule}
@@ -119,12 +114,9 @@ read-units s bytes ends r =
     let st : stateIn (frame s) ≡ r .state = ap (λ (v : Seen AnnexBReader). v .state) e in
     let g : givenOf (frame s) ≡ r .given = ap (λ (v : Seen AnnexBReader). v .bytes) e in
     let m : endsOf (frame s) ≡ r .marked = ap (λ (v : Seen AnnexBReader). v .ends) e in
-    let a = resetAnswer (r .state) (length (r .room)) (length (r .marks)) in
     let o = r .reset in
     let p = rw st at (reset-completes (frame s) (length (r .room)) (length (r .marks)) (ap (λ (x : AnnexBReader). resetAnswer x (length (r .room)) (length (r .marks)) .number) st ∙ sym (o .number-is) ∙ r .done)) in
-    let wb = written-front (r .closed .written) (r .room) (a .bytes) (r .room′) (o .wrote-is) (o .room) in
-    let wm = written-front (r .closed .marked) (r .marks) (a .marks) (r .marks′) (o .marked-is) (o .mark-room) in
-    (r .bytes-are ∙ ap₂ _++_ (sym g) wb ∙ p .bytes-all, r .ends-are ∙ ap₂ _++_ (sym m) (ap₂ shifted (ap length (sym g)) wm) ∙ p .ends-all)
+    (r .bytes-are ∙ ap₂ _++_ (sym g) (gave-bytes o) ∙ p .bytes-all, r .ends-are ∙ ap₂ _++_ (sym m) (ap₂ shifted (ap length (sym g)) (gave-marks o)) ∙ p .ends-all)
 
 -- UNIT FOR UNIT
 pub unit-for-unit : (us : List Written) (bytes ends : List ℕ) → Read (stream us) bytes ends → UnitForUnit us bytes ends

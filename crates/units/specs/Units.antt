@@ -1,5 +1,5 @@
 -- UNITS WRITTEN BEHIND START CODES, AND READ BACK UNIT FOR UNIT (demand 3). Assumes nothing: these are definitions.
-use Prim.Native.Nat.{ℕ, zero, suc, _-_}
+use Prim.Native.Nat.{ℕ, _-_}
 use mathlib.Core.Path.{_≡_}
 use mathlib.Core.List.{List, [], _∷_, _++_, map}
 use lib.ListN.{length, take, drop}

@@ -1,4 +1,4 @@
-use mathlib.Core.Path.{_≡_, sym, _∙_}
+use mathlib.Core.Path.{sym, _∙_}
 use Prim.Native.Nat.{ℕ}
 use native.Mathlib.Omega.{arith}
 use borrow.Author.Needs.{needs}
@@ -40,7 +40,7 @@ returns-3 c =
     let a = c .before .before .before .before .before .before .args in
     let e = c .before .before .after-last in
     passed (λ (n : ℕ). n) _ _ (c .before .before .before .before .entry .ensures) (c .before .before .before .if1 .left)
-    (sym (finish-behind 4 (now (a .s)) (a .self .at .0) (e .result) (e .ensures) (c .if3 .taken)))
+    (sym (finish-behind 4 (now (a .s)) (a .self .at .0) (e .result .0) (e .ensures) (c .if3 .taken)))
 
 returns-4 : tie.Need-returns-4
 unfolding finishRbsp
@@ -48,7 +48,7 @@ returns-4 c =
     let a = c .before .before .before .before .before .before .args in
     let e = c .before .before .after-last in
     passed (λ (n : ℕ). n) _ _ (c .before .before .before .before .entry .ensures) (c .before .before .before .if1 .left)
-    (sym (finish-here 4 (now (a .s)) (a .self .at .0) (e .result) (e .ensures) (omega arith)))
+    (sym (finish-here 4 (now (a .s)) (a .self .at .0) (e .result .0) (e .ensures) (omega arith)))
 
 pub finish-rbsp-spec : {M : Type 1} → statement M
 finish-rbsp-spec =

@@ -1,5 +1,5 @@
-use mathlib.Core.Path.{_≡_, sym, _∙_}
-use Prim.Native.Nat.{ℕ, _-_}
+use mathlib.Core.Path.{sym, _∙_}
+use Prim.Native.Nat.{ℕ}
 use native.Mathlib.Omega.{arith}
 use borrow.Author.Needs.{needs}
 use borrow.Author.Tests.{eq-eqb, ne-eqb}
@@ -30,7 +30,7 @@ returns-2 c =
     passed (λ (n : ℕ). n) _ _ (c .before .before .entry .ensures) (c .before .if1 .left) (simp (eq-eqb _ _ (c .if2 .taken)))
 
 add-if3 : tie.Need-add-if3
-add-if3 c = let g = ok (c .before) in omega arith
+add-if3 c = let g = ok (c .before .before) in omega arith
 
 after-last-requires : tie.Need-after-last-requires
 after-last-requires c κs = let g = ok (c .before) in g .small
@@ -41,7 +41,7 @@ returns-3 c =
     let a = c .before .before .before .before .before .before .args in
     let e = c .before .after-last in
     passed (λ (n : ℕ). n) _ _ (c .before .before .before .before .entry .ensures) (c .before .before .before .if1 .left)
-    (simp (ne-eqb _ _ (c .before .before .if2 .left), finish-here 6 (now (a .s)) (a .self .at .0) (e .result) (e .ensures) (omega arith)))
+    (simp (ne-eqb _ _ (c .before .before .if2 .left), finish-here 6 (now (a .s)) (a .self .at .0) (e .result .0) (e .ensures) (omega arith)))
 
 returns-4 : tie.Need-returns-4
 unfolding finishSei
@@ -50,7 +50,7 @@ returns-4 c =
     let e = c .before .after-last in
     let g = ok (c .before .before .before) in
     passed (λ (n : ℕ). n) _ _ (c .before .before .before .before .entry .ensures) (c .before .before .before .if1 .left)
-    (simp (ne-eqb _ _ (c .before .before .if2 .left), finish-not-here (now (a .s)) (a .self .at .0) (e .result) (e .ensures) (g .within) (c .if3 .left)))
+    (simp (ne-eqb _ _ (c .before .before .if2 .left), finish-not-here (now (a .s)) (a .self .at .0) (e .result .0) (e .ensures) (g .within) (c .if3 .left)))
 
 pub finish-sei-payload-spec : {M : Type 1} → statement M
 finish-sei-payload-spec =
@@ -60,7 +60,7 @@ finish-sei-payload-spec =
     returns
     mul-if2
     returns-2
-    add-if3
     after-last-requires
+    add-if3
     returns-3
     returns-4)

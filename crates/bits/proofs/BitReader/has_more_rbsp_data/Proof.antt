@@ -1,4 +1,4 @@
-use mathlib.Core.Path.{_≡_, sym, _∙_}
+use mathlib.Core.Path.{sym, _∙_}
 use native.Mathlib.Omega.{arith}
 use borrow.Author.Needs.{needs}
 use denote.Ref.{now}
@@ -20,7 +20,7 @@ ok : (c : tie.Else1) → Entered (now (c .before .before .before .args .s)) (c .
 ok c = entered _ _ (sym (c .before .entry .ensures) ∙ c .if1 .left)
 
 add-if2 : tie.Need-add-if2
-add-if2 c = let g = ok c in omega arith
+add-if2 c = let g = ok (c .before) in omega arith
 
 after-last-requires : tie.Need-after-last-requires
 after-last-requires c κs = let g = ok c in g .small
@@ -42,4 +42,4 @@ returns-3 c =
 
 pub has-more-rbsp-data-spec : {M : Type 1} → statement M
 has-more-rbsp-data-spec =
-    tie.close (tie.spec entry-requires returns add-if2 after-last-requires returns-2 returns-3)
+    tie.close (tie.spec entry-requires returns after-last-requires add-if2 returns-2 returns-3)

@@ -1,4 +1,4 @@
-use mathlib.Core.Path.{_≡_, refl, sym, _∙_}
+use mathlib.Core.Path.{refl, sym, _∙_}
 use native.Mathlib.Omega.{arith}
 use borrow.Author.Needs.{needs}
 use borrow.Author.Tests.{lt-ltb, le-ltb}
@@ -27,8 +27,8 @@ returns-2 c =
       same = refl;
     }
 
-add-if3 : tie.Need-add-if3
-add-if3 c = let g = ok (c .before) in omega arith
+add-next : tie.Need-add-next
+add-next c = let g = ok (c .before) in omega arith
 
 mul-if3 : tie.Need-mul-if3
 mul-if3 c = let g = ok (c .before) in omega arith
@@ -44,9 +44,6 @@ returns-3 c =
 
 bits-at-requires : tie.Need-bits-at-requires
 bits-at-requires c κs = let g = ok (c .before .before) in (omega arith, omega arith, g .small)
-
-add-t8 : tie.Need-add-t8
-add-t8 c = let g = ok (c .before .before .before) in omega arith
 
 returns-4 : tie.Need-returns-4
 unfolding readBits
@@ -64,9 +61,8 @@ read-spec =
     entry-requires
     returns
     returns-2
-    add-if3
+    add-next
     mul-if3
     returns-3
     bits-at-requires
-    add-t8
     returns-4)

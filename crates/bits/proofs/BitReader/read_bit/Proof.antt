@@ -1,4 +1,4 @@
-use mathlib.Core.Path.{_≡_, refl, sym, ap, subst, _∙_}
+use mathlib.Core.Path.{sym, ap, subst, _∙_}
 use borrow.Author.Needs.{needs}
 use Rattle.bits.specs.Answer.{answer, readBit, asBool, Same}
 use Rattle.bits.proofs.BitReader.read_bit.Statement.{statement}

@@ -1,4 +1,4 @@
-use mathlib.Core.Path.{_≡_, refl, sym, _∙_}
+use mathlib.Core.Path.{refl, sym, _∙_}
 use Prim.Native.Nat.{ℕ, _+_, _-_, _<_}
 use native.Mathlib.Omega.{arith}
 use borrow.Author.Needs.{needs}
@@ -66,7 +66,7 @@ returns-4 c =
 
 -- the zeros that were passed, and 2 to their count
 abbrev zeros : tie.Else4 → ℕ
-zeros c = c .before .before .before .first-one .result - c .before .before .before .before .before .before .before .args .self .at .0
+zeros c = c .before .before .before .first-one .result .0 - c .before .before .before .before .before .before .before .args .self .at .0
 
 few : (c : tie.Else4) → zeros c < 32
 few c = omega arith
@@ -80,8 +80,8 @@ shl-v c = search needs
 sub-v : tie.Need-sub-v
 sub-v c = omega (arith, one-shl 32 (zeros c) (few c), pow-pos (zeros c))
 
-add-bits-at : tie.Need-add-bits-at
-add-bits-at c = let g = ok (c .before .before .before .before) in omega arith
+add-t11 : tie.Need-add-t11
+add-t11 c = let g = ok (c .before .before .before .before) in omega arith
 
 bits-at-requires : tie.Need-bits-at-requires
 bits-at-requires c κs = let g = ok (c .before .before .before .before) in (omega arith, omega arith, g .small)
@@ -90,7 +90,7 @@ add-v : tie.Need-add-v
 add-v c =
     let a = c .before .before .before .before .before .before .before .before .args in
     let z = zeros (c .before) in
-    let one = c .before .before .before .before .first-one .result in
+    let one = c .before .before .before .before .first-one .result .0 in
     omega (arith, one-shl 32 z (few (c .before)), pow-mono {i = z} {j = 31} (omega (arith, few (c .before))), value-lt (now (a .s)) (one + 1) z)
 
 returns-5 : tie.Need-returns-5
@@ -119,7 +119,7 @@ read-ue-spec =
     cast-v
     shl-v
     sub-v
-    add-bits-at
+    add-t11
     bits-at-requires
     add-v
     returns-5)

@@ -8,7 +8,7 @@ use denote.Ref.{now}
 use lib.Dec.{ltb}
 use lib.ListN.{length}
 use Rattle.bits.specs.Step.{stored, more, Wrote, GoodAfter}
-use Rattle.bits.specs.Answer.{after, ueWidth}
+use Rattle.bits.specs.Answer.{ueWidth}
 use Rattle.bits.proofs.Storing.{stored-more, stored-good}
 use Rattle.bits.proofs.BitWriter.put_ue.Statement.{statement}
 use Rattle.bits.proofs.BitWriter.put_ue.Tie as tie

@@ -1,4 +1,4 @@
-use mathlib.Core.Path.{_≡_, refl, sym, ap, _∙_, subst}
+use mathlib.Core.Path.{refl, sym, ap, _∙_}
 use mir.Val.{ofZ}
 use Rattle.bits.specs.Rule.{unsignedOf}
 use Prim.Native.Nat.{ℕ, _+_}

@@ -1,12 +1,10 @@
-use mathlib.Core.Path.{_≡_, sym, ap, ap₂, _∙_, subst}
-use Prim.Native.Nat.{ℕ, _+_, _-_, _*_, _/_, _%_, _^_, _≤_, _<_}
+use mathlib.Core.Path.{_∙_}
+use Prim.Native.Nat.{_+_, _/_, _%_}
 use native.Mathlib.Omega.{arith}
-use lib.ListN.{length, getD}
-use denote.Ref.{now}
 use borrow.Author.Tests.{eq-eqb, ne-eqb}
-use lib.IntN.{ℤ, pos, negℤ, _-ℤ_}
+use lib.IntN.{pos, _-ℤ_}
 use mir.Syntax.{w32}
-use mir.Val.{SFits, toZ}
+use mir.Val.{toZ}
 use mir.ValLaws.{toZ-pos, toZ-ofZ}
 use Rattle.bits.proofs.Signs.{neg-fits, zero-sub}
 use borrow.Author.Needs.{needs}

@@ -1,11 +1,10 @@
-use mathlib.Core.Path.{_≡_, sym, ap, ap₂, _∙_, subst}
-use Prim.Native.Nat.{ℕ, _+_, _-_, _*_, _/_, _%_, _^_, _≤_, _<_}
+use mathlib.Core.Path.{_≡_, ap, _∙_, subst}
+use Prim.Native.Nat.{ℕ, _+_, _-_, _*_, _≤_, _<_}
 use native.Mathlib.Omega.{arith}
 use lib.ListN.{length, getD}
 use denote.Ref.{now}
 use borrow.Author.Needs.{needs}
 use lib.Count.{trailingZeros}
-use mathlib.Core.Logic.{_⊎_}
 use Rattle.bits.specs.Rule.{valueAt, size}
 use Rattle.bits.proofs.Value.{value-zero}
 use Rattle.bits.proofs.Ones.{zeros-more, last-in, last-nowhere}
@@ -34,37 +33,39 @@ shared-slice-read-byte-to-u32 c = omega arith
 byte-to-u32-requires : tie.Need-byte-to-u32-requires Inv-loop μ-loop
 byte-to-u32-requires c κs = search needs
 
-mul-result : tie.Need-mul-result Inv-loop μ-loop
-mul-result c = omega arith
+mul-t8 : tie.Need-mul-t8 Inv-loop μ-loop
+mul-t8 c = omega arith
 
-to-usize-requires : tie.Need-to-usize-requires Inv-loop μ-loop
-to-usize-requires c κs = search needs
-
-byte : (c : tie.After-to-usize Inv-loop μ-loop) →
-    let s = now (c .before .before .before .before .before .before .before .args .s) in
-    let b = getD s (c .before .before .before .before .before .loop .i - 1) 0 in
-    (0 < b) × (b < 256) × (c .to-usize .result ≡ trailingZeros 32 b)
+-- the byte that is no zero, and its trailing zeros
+byte : (c : tie.Then1 Inv-loop μ-loop) →
+    let s = now (c .before .before .before .before .before .before .args .s) in
+    let b = getD s (c .before .before .before .before .loop .i - 1) 0 in
+    (0 < b) × (b < 256) × (c .before .byte-to-u32 .result ≡ b)
 byte c =
-    let l = c .before .before .before .before .before .loop in
-    let k = c .before .before .before .shared-slice-known2 .given (l .i - 1) in
-    (omega arith, omega arith, c .to-usize .ensures ∙ ap (trailingZeros 32) (c .before .before .byte-to-u32 .ensures))
+    let l = c .before .before .before .before .loop in
+    let k = c .before .before .shared-slice-known2 .given (l .i - 1) in
+    let is = c .before .byte-to-u32 .ensures in
+    (omega arith, omega arith, is)
 
-sub-result : tie.Need-sub-result Inv-loop μ-loop
-sub-result c =
-    let s = now (c .before .before .before .before .before .before .before .args .s) in
-    let i = c .before .before .before .before .before .loop .i in
-    let b = byte c in
-    omega (arith, trailing-byte (getD s (i - 1) 0) (b .0) (b .1))
+few : (c : tie.Then1 Inv-loop μ-loop) → trailingZeros 32 (c .before .byte-to-u32 .result) < 8
+few c = let b = byte c in rw (b .2) (trailing-byte _ (b .0) (b .1))
+
+cast-t10 : tie.Need-cast-t10 Inv-loop μ-loop
+cast-t10 c = omega (arith, few c)
+
+sub-t11 : tie.Need-sub-t11 Inv-loop μ-loop
+sub-t11 c = omega (arith, few c)
 
 returns : tie.Need-returns Inv-loop μ-loop
 returns c =
-    let s = now (c .before .before .before .before .before .before .before .args .s) in
-    let l = c .before .before .before .before .before .loop in
+    let s = now (c .before .before .before .before .before .before .args .s) in
+    let l = c .before .before .before .before .loop in
     let i = l .i in
     let b = byte c in
-    let r = sub-result c in
+    let f = few c in
+    let t = ap (trailingZeros 32) (b .2) in
     let up : i ≡ i - 1 + 1 = omega arith in
-    last-in s (i - 1) (8 * i - c .to-usize .result) (omega arith) (b .0) (b .1)
+    last-in s (i - 1) (8 * i - trailingZeros 32 (c .before .byte-to-u32 .result)) (omega arith) (b .0) (b .1)
     (subst (λ (k : ℕ). valueAt s (8 * k) (size s - 8 * k) ≡ 0) up (l .inv .1)) (omega arith)
 
 sub-i : tie.Need-sub-i Inv-loop μ-loop
@@ -98,9 +99,9 @@ after-last-spec =
     sub-byte-to-u32
     shared-slice-read-byte-to-u32
     byte-to-u32-requires
-    mul-result
-    to-usize-requires
-    sub-result
+    mul-t8
+    cast-t10
+    sub-t11
     returns
     sub-i
     loop-less

@@ -1,9 +1,7 @@
 use mathlib.Core.Path.{_≡_, sym, ap, _∙_}
-use Prim.Native.Nat.{ℕ, _+_, _-_, _*_, _^_, _≤_, _<_}
+use Prim.Native.Nat.{ℕ, _-_, _*_, _^_, _≤_, _<_}
 use native.Mathlib.Omega.{arith}
-use native.Mathlib.Nat.{lt-of-lt-of-le}
 use borrow.Author.Needs.{needs}
-use lib.ListN.{length, getD}
 use lib.Pow.{pow-mono}
 use denote.Ref.{now}
 use Rattle.bits.specs.Rule.{valueAt}
@@ -12,21 +10,21 @@ use Rattle.bits.proofs.places.gather.Statement.{statement}
 use Rattle.bits.proofs.places.gather.Tie as tie
 
 abbrev Inv-loop : tie.InvT-loop
-Inv-loop s from to all₀ i₀ all i = (from ≤ i) × (i ≤ to) × (all ≡ valueAt s (8 * from) (8 * (i - from)))
+Inv-loop s end all₀ i₀ all i = (i₀ ≤ i) × (i ≤ end) × (all ≡ valueAt s (8 * i₀) (8 * (i - i₀)))
 
 abbrev μ-loop : tie.MeasureT-loop
-μ-loop s from to all₀ i₀ all i = to - i
+μ-loop s end all₀ i₀ all i = end - i
 
 small : (c : tie.In-loop Inv-loop μ-loop) → c .before .loop .all < 2 ^ 32
 small c =
     let a = c .before .before .before .args in
     let l = c .before .loop in
-    omega (arith, value-lt (now (a .s)) (8 * a .from) (8 * (l .i - a .from)), pow-mono {i = 8 * (l .i - a .from)} {j = 32} (omega arith))
+    omega (arith, value-lt (now (a .s)) (8 * a .from .0) (8 * (l .i - a .from .0)), pow-mono {i = 8 * (l .i - a .from .0)} {j = 32} (omega arith))
 
 loop-holds : tie.Need-loop-holds Inv-loop μ-loop
 loop-holds c =
     let a = c .before .args in
-    (omega arith, omega arith, sym (ap (valueAt (now (a .s)) (8 * a .from)) (omega arith) ∙ value-zero (now (a .s)) (8 * a .from)))
+    (omega arith, omega arith, sym (ap (valueAt (now (a .s)) (8 * a .from .0)) (omega arith) ∙ value-zero (now (a .s)) (8 * a .from .0)))
 
 mul-all : tie.Need-mul-all Inv-loop μ-loop
 mul-all c = omega (arith, small c)
@@ -52,14 +50,14 @@ loop-again c =
     let i = c .before .before .before .loop .i in (
       omega arith,
       omega arith,
-      omega (arith, value-more (now (a .s)) (a .from) i (omega arith) (c .before .shared-slice-known2 .given i .fits)),
+      omega (arith, value-more (now (a .s)) (a .from .0) i (omega arith) (c .before .shared-slice-known2 .given i .fits)),
     )
 
 returns : tie.Need-returns Inv-loop μ-loop
 returns c =
     let a = c .before .before .before .args in
     let l = c .before .loop in
-    l .inv .2 ∙ ap (λ (k : ℕ). valueAt (now (a .s)) (8 * a .from) (8 * (k - a .from))) (omega arith)
+    l .inv .2 ∙ ap (λ (k : ℕ). valueAt (now (a .s)) (8 * a .from .0) (8 * (k - a .from .0))) (omega arith)
 
 pub gather-spec : {M : Type 1} → statement M
 gather-spec =

@@ -1,23 +1,24 @@
-use borrow.Author.Needs.{needs}
 use native.Mathlib.Omega.{arith}
+use borrow.Author.Needs.{needs}
 use Rattle.bits.proofs.Ones.{leading-byte}
 use Rattle.bits.proofs.places.top_place.Statement.{statement}
 use Rattle.bits.proofs.places.top_place.Tie as tie
 
-mul-result : tie.Need-mul-result
-mul-result c = search needs
+mul-t4 : tie.Need-mul-t4
+mul-t4 c = search needs
 
-to-usize-requires : tie.Need-to-usize-requires
-to-usize-requires c κs = search needs
+cast-t6 : tie.Need-cast-t6
+cast-t6 c = omega (arith, leading-byte (c .args .b) (omega arith) (omega arith))
 
-add-result : tie.Need-add-result
-add-result c = let a = c .before .args in omega (arith, leading-byte (a .b) (omega arith) (omega arith))
+add-t7 : tie.Need-add-t7
+add-t7 c = omega (arith, leading-byte (c .args .b) (omega arith) (omega arith))
 
-sub-result : tie.Need-sub-result
-sub-result c = let a = c .before .args in omega (arith, leading-byte (a .b) (omega arith) (omega arith))
+sub-t8 : tie.Need-sub-t8
+sub-t8 c = omega (arith, leading-byte (c .args .b) (omega arith) (omega arith))
 
 returns : tie.Need-returns
-returns c = let a = c .before .args in omega (arith, leading-byte (a .b) (omega arith) (omega arith))
+returns c = omega (arith, leading-byte (c .args .b) (omega arith) (omega arith))
 
 pub top-place-spec : {M : Type 1} → statement M
-top-place-spec = tie.close (tie.spec mul-result to-usize-requires add-result sub-result returns)
+top-place-spec =
+    tie.close (tie.spec mul-t4 cast-t6 add-t7 sub-t8 returns)

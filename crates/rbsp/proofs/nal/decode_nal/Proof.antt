@@ -1,17 +1,10 @@
 use denote.Ref.{now}
-use Prim.Native.Nat.{_≤_, _<_}
 use native.Mathlib.Omega.{arith}
 use lib.ListN.{length, drop, length-drop}
 use Rattle.rbsp.proofs.Decoding.{entry-long, entry-fits, kept-is, broken-is, says-long, says-empty, says-forbidden}
 use borrow.Author.Needs.{needs}
 use Rattle.rbsp.proofs.nal.decode_nal.Statement.{statement}
 use Rattle.rbsp.proofs.nal.decode_nal.Tie as tie
-use Rattle.rbsp.proofs.nal.decode_nal.Reads as reads
-use Rattle.rbsp.proofs.nal.decode_nal.Lts as lts
-use Rattle.desk.proofs.entry.Reads as entry-reads
-use Rattle.rbsp.proofs.nal.fill.Reads as fill-reads
-use Rattle.rbsp.proofs.nal.survey.Reads as survey-reads
-use Rattle.rbsp.proofs.nal.tail_of.Reads as tail-of-reads
 
 entry-requires : tie.Need-entry-requires
 entry-requires c κs = search needs

@@ -1,5 +1,4 @@
 use mathlib.Core.Path.{subst}
-use lib.ListN.{length}
 use Rattle.rbsp.specs.declared.reader.ParseState.{ParseState}
 use Rattle.rbsp.specs.Answer.{ReadPush}
 use Rattle.rbsp.proofs.Decoding.{says-own, says-no-room, says-filled}
@@ -7,10 +6,6 @@ use denote.Ref.{now}
 use borrow.Author.Needs.{needs}
 use Rattle.rbsp.proofs.nal.fill.Statement.{statement}
 use Rattle.rbsp.proofs.nal.fill.Tie as tie
-use Rattle.rbsp.proofs.nal.fill.Reads as reads
-use Rattle.rbsp.proofs.nal.fill.Lts as lts
-use Rattle.rbsp.proofs.reader.ByteReader.push.Reads as push-reads
-use Rattle.rbsp.proofs.reader.ByteReader.skipping_h264_header.Reads as skipping-h264-header-reads
 
 sub-if1 : tie.Need-sub-if1
 sub-if1 c = search needs

@@ -4,8 +4,6 @@ use lib.Seq.{take-all, length-take-le}
 use borrow.Author.Needs.{needs}
 use Rattle.rbsp.proofs.nal.front.Statement.{statement}
 use Rattle.rbsp.proofs.nal.front.Tie as tie
-use Rattle.rbsp.proofs.nal.front.Reads as reads
-use Rattle.rbsp.proofs.nal.front.Lts as lts
 
 returns : tie.Need-returns
 returns c = sym (take-all (c .before .args .n) (c .before .args .room .now) (omega arith))

@@ -1,10 +1,6 @@
 use borrow.Author.Needs.{needs}
 use Rattle.rbsp.proofs.nal.shown.Statement.{statement}
 use Rattle.rbsp.proofs.nal.shown.Tie as tie
-use Rattle.rbsp.proofs.nal.shown.Reads as reads
-use Rattle.rbsp.proofs.nal.shown.Lts as lts
-use Rattle.rbsp.proofs.nal.front.Reads as front-reads
-use Rattle.rbsp.proofs.nal.tail_of.Reads as tail-of-reads
 
 enum-told : tie.Need-enum-told
 enum-told c = search needs

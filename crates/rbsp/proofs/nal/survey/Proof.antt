@@ -1,5 +1,5 @@
 use denote.Ref.{now}
-use Prim.Native.Nat.{ℕ, _≤_, _-_, _<_, _+_}
+use Prim.Native.Nat.{_-_}
 use native.Mathlib.Omega.{arith}
 use mathlib.Core.Path.{sym}
 use lib.ListN.{length, getD}
@@ -9,9 +9,6 @@ use Rattle.rbsp.proofs.Decoding.{Surveying, surveying-none, surveying-m
 use Rattle.rbsp.proofs.Pushing.{took-is, forbids-is, next-one}
 use Rattle.rbsp.proofs.nal.survey.Statement.{statement}
 use Rattle.rbsp.proofs.nal.survey.Tie as tie
-use Rattle.rbsp.proofs.nal.survey.Reads as reads
-use Rattle.rbsp.proofs.nal.survey.Lts as lts
-use Rattle.rbsp.proofs.reader.step.Reads as step-reads
 
 abbrev Inv-loop : tie.InvT-loop
 Inv-loop tail state₀ kept₀ i₀ state kept i = Surveying tail state kept i

@@ -1,13 +1,11 @@
 use Rattle.rbsp.proofs.Decoding.{no-tail}
-use mathlib.Core.Path.{_≡_, sym, ap, _∙_}
+use mathlib.Core.Path.{sym, ap, _∙_}
 use Prim.Native.Nat.{ℕ}
-use lib.ListN.{length, take, drop, length-drop}
+use lib.ListN.{take, drop, length-drop}
 use lib.Seq.{take-length}
 use borrow.Author.Needs.{needs}
 use Rattle.rbsp.proofs.nal.tail_of.Statement.{statement}
 use Rattle.rbsp.proofs.nal.tail_of.Tie as tie
-use Rattle.rbsp.proofs.nal.tail_of.Reads as reads
-use Rattle.rbsp.proofs.nal.tail_of.Lts as lts
 
 returns : tie.Need-returns
 returns c = no-tail (c .before .args .nal .now) (c .if1 .taken)

@@ -1,12 +1,7 @@
-use mathlib.Core.Path.{ap}
-use native.Mathlib.Omega.{arith}
 use Rattle.desk.proofs.Bytes.{above-3, up-to-3}
 use borrow.Author.Needs.{needs}
 use Rattle.rbsp.proofs.reader.after_three.Statement.{statement}
 use Rattle.rbsp.proofs.reader.after_three.Tie as tie
-use Rattle.rbsp.proofs.reader.after_three.Reads as reads
-use Rattle.rbsp.proofs.reader.after_three.Lts as lts
-use Rattle.desk.proofs.zeros_after.Reads as zeros-after-reads
 
 returns : tie.Need-returns
 returns c = simp (above-3 _ (c .if1 .taken))

@@ -1,8 +1,6 @@
 use borrow.Author.Needs.{needs}
 use Rattle.rbsp.proofs.reader.is_bad.Statement.{statement}
 use Rattle.rbsp.proofs.reader.is_bad.Tie as tie
-use Rattle.rbsp.proofs.reader.is_bad.Reads as reads
-use Rattle.rbsp.proofs.reader.is_bad.Lts as lts
 
 enum-known-state : tie.Need-enum-known-state
 enum-known-state c = search needs

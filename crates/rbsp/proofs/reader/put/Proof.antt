@@ -5,8 +5,6 @@ use Rattle.desk.proofs.Room.{stored, written-none}
 use borrow.Author.Needs.{needs}
 use Rattle.rbsp.proofs.reader.put.Statement.{statement}
 use Rattle.rbsp.proofs.reader.put.Tie as tie
-use Rattle.rbsp.proofs.reader.put.Reads as reads
-use Rattle.rbsp.proofs.reader.put.Lts as lts
 
 slice-write-room : tie.Need-slice-write-room
 slice-write-room c = search needs

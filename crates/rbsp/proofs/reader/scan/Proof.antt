@@ -3,9 +3,6 @@ use Rattle.desk.proofs.Bytes.{not-3, up-to-2, above-2, is-two, not-two}
 use borrow.Author.Needs.{needs}
 use Rattle.rbsp.proofs.reader.scan.Statement.{statement}
 use Rattle.rbsp.proofs.reader.scan.Tie as tie
-use Rattle.rbsp.proofs.reader.scan.Reads as reads
-use Rattle.rbsp.proofs.reader.scan.Lts as lts
-use Rattle.desk.proofs.zeros_after.Reads as zeros-after-reads
 
 zeros-after-requires : tie.Need-zeros-after-requires
 zeros-after-requires c κs = search needs

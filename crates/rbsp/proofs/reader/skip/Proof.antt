@@ -2,10 +2,6 @@ use Rattle.rbsp.proofs.Stepping.{next-skip}
 use borrow.Author.Needs.{needs}
 use Rattle.rbsp.proofs.reader.skip.Statement.{statement}
 use Rattle.rbsp.proofs.reader.skip.Tie as tie
-use Rattle.rbsp.proofs.reader.skip.Reads as reads
-use Rattle.rbsp.proofs.reader.skip.Lts as lts
-use Rattle.rbsp.proofs.reader.scan.Reads as scan-reads
-use Rattle.rbsp.proofs.reader.skip_left.Reads as skip-left-reads
 
 scan-requires : tie.Need-scan-requires
 scan-requires c κs = search needs

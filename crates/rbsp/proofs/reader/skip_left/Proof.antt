@@ -2,8 +2,6 @@ use Rattle.rbsp.proofs.Stepping.{skip-some}
 use borrow.Author.Needs.{needs}
 use Rattle.rbsp.proofs.reader.skip_left.Statement.{statement}
 use Rattle.rbsp.proofs.reader.skip_left.Tie as tie
-use Rattle.rbsp.proofs.reader.skip_left.Reads as reads
-use Rattle.rbsp.proofs.reader.skip_left.Lts as lts
 
 returns : tie.Need-returns
 returns c = search needs

@@ -1,11 +1,6 @@
 use borrow.Author.Needs.{needs}
 use Rattle.rbsp.proofs.reader.step.Statement.{statement}
 use Rattle.rbsp.proofs.reader.step.Tie as tie
-use Rattle.rbsp.proofs.reader.step.Reads as reads
-use Rattle.rbsp.proofs.reader.step.Lts as lts
-use Rattle.rbsp.proofs.reader.after_three.Reads as after-three-reads
-use Rattle.rbsp.proofs.reader.scan.Reads as scan-reads
-use Rattle.rbsp.proofs.reader.skip.Reads as skip-reads
 
 enum-known-state : tie.Need-enum-known-state
 enum-known-state c = search needs

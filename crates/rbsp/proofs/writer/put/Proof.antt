@@ -6,8 +6,6 @@ use Rattle.desk.proofs.Room.{stored}
 use borrow.Author.Needs.{needs}
 use Rattle.rbsp.proofs.writer.put.Statement.{statement}
 use Rattle.rbsp.proofs.writer.put.Tie as tie
-use Rattle.rbsp.proofs.writer.put.Reads as reads
-use Rattle.rbsp.proofs.writer.put.Lts as lts
 
 slice-write-room : tie.Need-slice-write-room
 slice-write-room c = search needs

@@ -2,9 +2,6 @@ use Rattle.rbsp.proofs.Stepping.{does-other, does-two, does-one}
 use borrow.Author.Needs.{needs}
 use Rattle.rbsp.proofs.writer.stuff.Statement.{statement}
 use Rattle.rbsp.proofs.writer.stuff.Tie as tie
-use Rattle.rbsp.proofs.writer.stuff.Reads as reads
-use Rattle.rbsp.proofs.writer.stuff.Lts as lts
-use Rattle.desk.proofs.zeros_after.Reads as zeros-after-reads
 
 returns : tie.Need-returns
 returns c = does-other _ _ (c .if1 .taken)

@@ -1,5 +1,5 @@
 use denote.Ref.{now}
-use Prim.Native.Nat.{ℕ, _≤_, _-_, _<_, _+_}
+use Prim.Native.Nat.{_-_}
 use native.Mathlib.Omega.{arith}
 use native.Mathlib.Nat.{le-refl}
 use mathlib.Core.List.{[]}
@@ -12,12 +12,6 @@ use Rattle.rbsp.specs.Step.{next}
 use Rattle.rbsp.proofs.Pushing.{refused, entry-is, more, full, took-is, forbids-is, next-one}
 use Rattle.rbsp.proofs.reader.ByteReader.push.Statement.{statement}
 use Rattle.rbsp.proofs.reader.ByteReader.push.Tie as tie
-use Rattle.rbsp.proofs.reader.ByteReader.push.Reads as reads
-use Rattle.rbsp.proofs.reader.ByteReader.push.Lts as lts
-use Rattle.desk.proofs.entry.Reads as entry-reads
-use Rattle.rbsp.proofs.reader.is_bad.Reads as is-bad-reads
-use Rattle.rbsp.proofs.reader.put.Reads as put-reads
-use Rattle.rbsp.proofs.reader.step.Reads as step-reads
 
 abbrev Inv-loop : tie.InvT-loop
 Inv-loop chunk out₀ state₀ number taken₀ written₀ out state taken written = Going next chunk out₀ [] state₀ out [] state taken written 0

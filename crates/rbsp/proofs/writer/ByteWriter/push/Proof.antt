@@ -1,5 +1,5 @@
 use denote.Ref.{now}
-use Prim.Native.Nat.{ℕ, _≤_, _-_, _<_, _+_}
+use Prim.Native.Nat.{_-_}
 use native.Mathlib.Omega.{arith}
 use native.Mathlib.Nat.{le-refl}
 use mathlib.Core.List.{[]}
@@ -12,11 +12,6 @@ use Rattle.rbsp.specs.Step.{escapes, released}
 use Rattle.rbsp.proofs.Pushing.{refused, more, full, released-length}
 use Rattle.rbsp.proofs.writer.ByteWriter.push.Statement.{statement}
 use Rattle.rbsp.proofs.writer.ByteWriter.push.Tie as tie
-use Rattle.rbsp.proofs.writer.ByteWriter.push.Reads as reads
-use Rattle.rbsp.proofs.writer.ByteWriter.push.Lts as lts
-use Rattle.desk.proofs.entry.Reads as entry-reads
-use Rattle.rbsp.proofs.writer.put.Reads as put-reads
-use Rattle.rbsp.proofs.writer.stuff.Reads as stuff-reads
 
 abbrev Inv-loop : tie.InvT-loop
 Inv-loop chunk out₀ number state₀ taken₀ written₀ out state taken written = Going escapes chunk out₀ [] state₀ out [] state taken written 0

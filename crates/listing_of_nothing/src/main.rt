@@ -1,0 +1,4 @@
+// The same program as `listing`, run on empty input.
+fn main() {
+    lister::list_standard_input();
+}

@@ -1,0 +1,11 @@
+-- Laws.
+pub mod Rows
+pub mod Ids
+pub mod Below
+pub mod Entry
+pub mod Results
+pub mod Local
+pub mod Unique
+pub mod Concrete
+pub mod Sheets
+pub mod Reach

@@ -1,0 +1,128 @@
+-- Every number that a call can give is given by some input. Assumes nothing.
+use mathlib.Core.Path.{_≡_, refl, sym, ap, _∙_}
+use mathlib.Core.List.{List, [], _∷_}
+use mathlib.Core.Bool.{Bool, true, false, _||_}
+use Prim.Native.Nat.{ℕ, _+_, _≤_, _<_}
+use native.Mathlib.Omega.{arith}
+use borrow.Author.Tests.{lt-ltb}
+use lib.Dec.{lit≤, lit<}
+use lib.ListN.{length}
+use Rattle.desk.specs.Numbers.{most, anyOver}
+use Rattle.bits.specs.Reading.{Ans, got, no, readUe, Entered, OneAfter, WhyUe, ueNone, ueMany, size}
+use Rattle.bits.proofs.Refusing.{ue-refuse}
+use Rattle.bits.proofs.Value.{value-zero}
+use Rattle.pps.specs.Rule.{badPicture, badGroupCount, bottomRightOk, rectangle, ueBelow, row, numRefIdx, runLengths, rectangles, change, groupIds, byType, sliceGroups}
+use Rattle.pps.specs.Answer.{entryFor, behind, rectOf, groupsOf}
+use Rattle.pps.proofs.Concrete.{ue-here, bits-here, flag-here, made}
+use Rattle.pps.proofs.Entry.{entry-passes, entry-1, entry-2, entry-11}
+use Rattle.pps.proofs.Ids.{id-bits-is}
+
+-- ---- SliceGroup::read, with no id buffer unless it is named
+
+-- 1 by a law: bytes, or an id buffer, over the limit
+pub reach-1 : (s : List ℕ) (p n width units room : ℕ) → anyOver (length s ∷ room ∷ 0 ∷ []) ≡ true → groupsOf s p n width units room ≡ no 1
+unfolding groupsOf
+reach-1 s p n width units room h = simp (entry-1 s p room width units (badGroupCount n) h)
+
+-- place 1 of no bytes
+pub reach-2 : groupsOf [] 1 1 1 1 0 ≡ no 2
+unfolding groupsOf
+reach-2 = simp (entry-2 [] 1 0 1 1 (badGroupCount 1) (lit≤ tt) (lit≤ tt) (lit< tt))
+
+start : (s : List ℕ) → length s ≤ most → Entered s 0
+start s h = record { small = h; within = omega arith }
+
+no-picture : (n width units : ℕ) → (badPicture width units || badGroupCount n) ≡ true → groupsOf [] 0 n width units 0 ≡ no 11
+unfolding groupsOf
+no-picture n width units h = simp (entry-11 [] 0 0 width units (badGroupCount n) (start [] (lit≤ tt)) (lit≤ tt) h)
+
+-- each cause of 11: width 0, size 0, size no multiple of the width, size over the limit; n of 0 and of 8
+pub reach-11 : (groupsOf [] 0 1 0 1 0 ≡ no 11) × (groupsOf [] 0 1 1 0 0 ≡ no 11) × (groupsOf [] 0 1 2 3 0 ≡ no 11) × (groupsOf [] 0 1 1 36865 0 ≡ no 11)
+    × (groupsOf [] 0 0 1 1 0 ≡ no 11) × (groupsOf [] 0 8 1 1 0 ≡ no 11)
+unfolding badPicture badGroupCount
+reach-11 = (no-picture 1 0 1 refl, no-picture 1 1 0 refl, no-picture 1 2 3 refl, no-picture 1 1 36865 refl, no-picture 0 1 1 refl, no-picture 8 1 1 refl)
+
+-- what passes the entry checks answers by its fields
+by-fields : (s : List ℕ) (n width units room : ℕ) → length s ≤ most → room ≤ most → badPicture width units ≡ false → badGroupCount n ≡ false
+    → entryFor s 0 room width units (badGroupCount n) ≡ 0
+by-fields s n width units room h r a b = entry-passes s 0 room width units (badGroupCount n) (start s h) r a b
+
+no-ue : readUe [] 0 ≡ no 4
+no-ue = ue-refuse (ueNone (start [] (lit≤ tt)) (value-zero [] 0))
+
+-- no bytes
+pub reach-4 : groupsOf [] 0 1 1 1 0 ≡ no 4
+unfolding groupsOf sliceGroups badPicture badGroupCount
+reach-4 = simp (by-fields [] 1 1 1 0 (lit≤ tt) (lit≤ tt) refl refl, no-ue)
+
+-- 32 zeros and a one
+pub reach-5 : groupsOf (0 ∷ 0 ∷ 0 ∷ 0 ∷ 0x80 ∷ []) 0 1 1 1 0 ≡ no 5
+unfolding groupsOf sliceGroups badPicture badGroupCount
+reach-5 =
+    let s : List ℕ = 0 ∷ 0 ∷ 0 ∷ 0 ∷ 0x80 ∷ [] in
+    let many : readUe s 0 ≡ no 5 = ue-refuse (ueMany 32 (start s (lit≤ tt)) (record { within = lit< tt; one = made s 0 33 1 refl .value }) (lit< tt)) in
+    simp (by-fields s 1 1 1 0 (lit≤ tt) (lit≤ tt) refl refl, many)
+
+-- document 01's four ids, and room for three
+pub reach-10 : groupsOf (0x39 ∷ 0x06 ∷ 0x80 ∷ []) 0 2 2 4 3 ≡ no 10
+unfolding groupsOf sliceGroups byType groupIds ueBelow row badPicture badGroupCount
+reach-10 =
+    let s : List ℕ = 0x39 ∷ 0x06 ∷ 0x80 ∷ [] in
+    simp (
+      by-fields s 2 2 4 3 (lit≤ tt) (lit≤ tt) refl refl,
+      ue-here s 0 2 6 refl,
+      ue-here s 5 2 3 refl,
+      id-bits-is 2 1 (lit≤ tt) (lit< tt),
+      bits-here s 10 2 0 refl,
+      bits-here s 12 2 1 refl,
+      bits-here s 14 2 2 refl,
+      bits-here s 16 2 2 refl,
+    )
+
+-- map type 7
+pub reach-12 : groupsOf (0x10 ∷ []) 0 1 1 1 0 ≡ no 12
+unfolding groupsOf sliceGroups byType badPicture badGroupCount
+reach-12 = let s : List ℕ = 0x10 ∷ [] in simp (by-fields s 1 1 1 0 (lit≤ tt) (lit≤ tt) refl refl, ue-here s 0 3 7 refl)
+
+-- a run length of 1 + 1 in a picture of 1
+pub reach-13 : groupsOf (0xA0 ∷ []) 0 1 1 1 0 ≡ no 13
+unfolding groupsOf sliceGroups byType runLengths row ueBelow badPicture badGroupCount
+reach-13 = let s : List ℕ = 0xA0 ∷ [] in simp (by-fields s 1 1 1 0 (lit≤ tt) (lit≤ tt) refl refl, ue-here s 0 0 0 refl, ue-here s 1 1 1 refl)
+
+-- rectangle 1 to 0; rectangle 1 to 2 of two columns
+pub reach-14 : groupsOf (0x6A ∷ []) 0 1 1 1 0 ≡ no 14
+unfolding groupsOf sliceGroups byType rectangles row rectangle badPicture badGroupCount
+reach-14 =
+    let s : List ℕ = 0x6A ∷ [] in
+    simp (by-fields s 1 1 1 0 (lit≤ tt) (lit≤ tt) refl refl, ue-here s 0 1 2 refl, ue-here s 3 1 1 refl, ue-here s 6 0 0 refl)
+
+pub reach-14-column : groupsOf (0x69 ∷ 0x80 ∷ []) 0 1 2 2 0 ≡ no 14
+unfolding groupsOf sliceGroups byType rectangles row rectangle bottomRightOk badPicture badGroupCount
+reach-14-column =
+    let s : List ℕ = 0x69 ∷ 0x80 ∷ [] in
+    simp (by-fields s 1 2 2 0 (lit≤ tt) (lit≤ tt) refl refl, ue-here s 0 1 2 refl, ue-here s 3 1 1 refl, ue-here s 6 1 2 refl)
+
+-- rectangle 0 to 2 in a picture of 1
+pub reach-15 : groupsOf (0x76 ∷ []) 0 1 1 1 0 ≡ no 15
+unfolding groupsOf sliceGroups byType rectangles row rectangle bottomRightOk badPicture badGroupCount
+reach-15 =
+    let s : List ℕ = 0x76 ∷ [] in
+    simp (by-fields s 1 1 1 0 (lit≤ tt) (lit≤ tt) refl refl, ue-here s 0 1 2 refl, ue-here s 3 0 0 refl, ue-here s 4 1 2 refl)
+
+-- type 3 and a rate of 1 + 1 in a picture of 1
+pub reach-16 : groupsOf (0x21 ∷ 0x00 ∷ []) 0 1 1 1 0 ≡ no 16
+unfolding groupsOf sliceGroups byType change ueBelow badPicture badGroupCount
+reach-16 =
+    let s : List ℕ = 0x21 ∷ 0x00 ∷ [] in
+    simp (by-fields s 1 1 1 0 (lit≤ tt) (lit≤ tt) refl refl, ue-here s 0 2 3 refl, flag-here s 5 refl, ue-here s 6 1 1 refl)
+
+-- type 6 and 1 + 1 ids in a picture of 1
+pub reach-17 : groupsOf (0x3A ∷ []) 0 1 1 1 0 ≡ no 17
+unfolding groupsOf sliceGroups byType groupIds ueBelow badPicture badGroupCount
+reach-17 = let s : List ℕ = 0x3A ∷ [] in simp (by-fields s 1 1 1 0 (lit≤ tt) (lit≤ tt) refl refl, ue-here s 0 2 6 refl, ue-here s 5 1 1 refl)
+
+-- ---- read_num_ref_idx: 32
+
+pub reach-18 : numRefIdx (0x04 ∷ 0x20 ∷ []) 0 ≡ no 18
+unfolding ueBelow
+reach-18 = let s : List ℕ = 0x04 ∷ 0x20 ∷ [] in simp (ue-here s 0 5 32 refl)

@@ -1,0 +1,181 @@
+-- The rule's answer as the struct has it, for each map type. Assumes nothing.
+use mathlib.Core.Path.{_≡_, refl, sym, ap, ap₂, _∙_}
+use mathlib.Core.List.{List, []}
+use mathlib.Core.Bool.{Bool, cond}
+use Prim.Native.Nat.{ℕ, _+_, _-_, _*_, _≤_, _<_}
+use native.Mathlib.Omega.{arith}
+use borrow.Author.Tests.{lt-ltb, le-ltb, ne-eqb, le-leb, lt-leb}
+use lib.ListN.{length, take}
+use Rattle.desk.specs.Numbers.{badRunLength, badChangeRate, badPicSize}
+use Rattle.bits.specs.Reading.{Ans, got, no, andThen, readUe, readBit, size, Entered}
+use Rattle.bits.specs.declared.BitReader.{BitReader}
+use Rattle.pps.specs.declared.Geometry.{Geometry}
+use Rattle.pps.specs.declared.SliceRect.{SliceRect}
+use Rattle.pps.specs.declared.SliceGroupChangeType.{SliceGroupChangeType}
+use Rattle.pps.specs.declared.SliceGroupRead.{SliceGroupRead}
+use Rattle.pps.specs.declared.SliceGroup.the-variants.{Interleaved, Dispersed, ForegroundAndLeftover, Changing, ExplicitAssignment}
+use Rattle.pps.specs.Rule.{badGroupCount, ueBelow, row, rectangle, idBits, groupId, Fields, interleaved, dispersed, foreground, changing, explicit, runLengths, rectangles, change, groupIds, byType, sliceGroups}
+use Rattle.pps.specs.Step.{filled, RowSo, IdsPut}
+use Rattle.pps.specs.Answer.{entryFor, roomed, groupsOf, idsGiven, noRuns, noRects, changeType, readerAt, whole, refusal, resultOf, GroupsGiven, ReadsGroups}
+use Rattle.pps.proofs.Rows.{row-stops, row-read, row-stands, row-length}
+use Rattle.pps.proofs.Ids.{ids-there, ids-short}
+use Rattle.pps.proofs.Entry.{behind-some}
+
+-- a row that stops, or comes to its end, and what the call makes of it
+module _ (from : BitReader) (n width size : ℕ) (s : List ℕ) (p : ℕ) (r : SliceGroupRead) (i at : ℕ) where
+  pub runs-stop : (xs : List ℕ) → RowSo (ueBelow size badRunLength) s (n + 1) p noRuns i xs at → (k j : ℕ) → i < n + 1
+      → ueBelow size badRunLength s at ≡ no k → j ≡ k → r ≡ refusal from j → r ≡ resultOf from n (runLengths n size s p)
+  unfolding runLengths
+  runs-stop xs so k j h e ej er = rw (er, ej, row-stops (ueBelow size badRunLength) s (n + 1) p noRuns i xs at so k h e)
+
+  pub runs-end : (xs : List ℕ) → RowSo (ueBelow size badRunLength) s (n + 1) p noRuns i xs at → n + 1 ≤ i → (rects : List SliceRect) → rects ≡ noRects
+      → r ≡ whole (readerAt at) Interleaved n xs rects 0 → r ≡ resultOf from n (runLengths n size s p)
+  unfolding runLengths
+  runs-end xs so h rects er e =
+      rw (row-read (ueBelow size badRunLength) s (n + 1) p noRuns i xs at so h)
+      (e ∙ ap₂ (λ (x : List ℕ) (y : List SliceRect). whole (readerAt at) Interleaved n x y 0)
+      (row-stands (ueBelow size badRunLength) s (n + 1) p noRuns i xs at so h) er)
+
+  pub rects-stop : (xs : List SliceRect) → RowSo (rectangle width size) s n p noRects i xs at → (k j : ℕ) → i < n
+      → rectangle width size s at ≡ no k → j ≡ k → r ≡ refusal from j → r ≡ resultOf from n (rectangles n width size s p)
+  unfolding rectangles
+  rects-stop xs so k j h e ej er = rw (er, ej, row-stops (rectangle width size) s n p noRects i xs at so k h e)
+
+  pub rects-end : (xs : List SliceRect) → RowSo (rectangle width size) s n p noRects i xs at → n ≤ i
+      → r ≡ whole (readerAt at) ForegroundAndLeftover n noRuns xs 0 → r ≡ resultOf from n (rectangles n width size s p)
+  unfolding rectangles
+  rects-end xs so h e =
+      rw (row-read (rectangle width size) s n p noRects i xs at so h)
+      (e ∙ ap (λ (y : List SliceRect). whole (readerAt at) ForegroundAndLeftover n noRuns y 0) (row-stands (rectangle width size) s n p noRects i xs at so h))
+
+-- ---- a change
+
+module _ (from : BitReader) (n t size : ℕ) (s : List ℕ) (p : ℕ) (r : SliceGroupRead) where
+  pub flag-stop : (k j : ℕ) → readBit s p ≡ no k → j ≡ k → r ≡ refusal from j → r ≡ resultOf from n (change t size s p)
+  unfolding change
+  flag-stop k j e ej er = rw (er, ej, e)
+
+  pub rate-stop : (flag : Bool) (q k j : ℕ) → readBit s p ≡ got flag q → ueBelow size badChangeRate s q ≡ no k → j ≡ k → r ≡ refusal from j
+      → r ≡ resultOf from n (change t size s p)
+  unfolding change
+  rate-stop flag q k j e f ej er = rw (er, ej, e, f)
+
+  pub change-end : (flag : Bool) (q rate e : ℕ) (ct : SliceGroupChangeType) → readBit s p ≡ got flag q → ueBelow size badChangeRate s q ≡ got rate e
+      → ct ≡ changeType t → r ≡ whole (readerAt e) (Changing ct flag rate) n noRuns noRects 0 → r ≡ resultOf from n (change t size s p)
+  unfolding change
+  change-end flag q rate e ct f g ec er = rw (er, ec, f, g)
+
+-- ---- ids
+
+module _ (from : BitReader) (n units : ℕ) (s : List ℕ) (p : ℕ) (ids : List ℕ) (r : SliceGroupRead) where
+  abbrev Ids : List ℕ → Type 0
+  Ids ids′ = GroupsGiven from n (roomed (length ids) (groupIds n units s p)) ids r ids′
+
+  pub ids-stop : (k j : ℕ) → ueBelow units badPicSize s p ≡ no k → j ≡ k → r ≡ refusal from j → Ids ids
+  unfolding groupIds filled
+  ids-stop k j e ej er = rw e (record { answers = rw (er, ej); memory = refl })
+
+  module _ (m q : ℕ) (first : ueBelow units badPicSize s p ≡ got m q) (g : Entered s q) (narrow : idBits n ≤ 32) where
+    pub ids-few : size s < q + (m + 1) * idBits n → r ≡ refusal from 4 → Ids ids
+    unfolding groupIds filled
+    ids-few h er = rw (first, ids-short (idBits n) narrow (m + 1) s q g h) (record { answers = er; memory = refl })
+
+    pub ids-no-room : q + (m + 1) * idBits n ≤ size s → length ids < m + 1 → r ≡ refusal from 10 → Ids ids
+    unfolding groupIds filled
+    ids-no-room h l er = go (row (groupId n) (m + 1) s q) refl
+      where
+        go : (x : Ans (List ℕ)) → row (groupId n) (m + 1) s q ≡ x → Ids ids
+        go (got vs e) f =
+            let long = row-length (groupId n) (m + 1) s q vs e f in
+            rw (first, f, lt-ltb (length ids) (length vs) (omega arith)) (record { answers = er; memory = refl })
+        go (no k) f = absurd (ids-there (idBits n) narrow (m + 1) s q k g h f)
+
+    pub ids-end : (ids′ : List ℕ) (e : ℕ) → IdsPut s q (m + 1) (idBits n) ids ids′ e → m + 1 ≤ length ids
+        → r ≡ whole (readerAt e) (ExplicitAssignment m) n noRuns noRects (m + 1) → Ids ids′
+    unfolding groupIds
+    ids-end ids′ e put h er =
+        let vs = take (m + 1) ids′ in
+        let long = row-length (groupId n) (m + 1) s q vs e (put .read) in
+        let less : length vs - 1 ≡ m = omega arith in
+        rw (first, put .read, le-ltb (length ids) (length vs) (omega arith)) (record { answers = rw (less, long) er; memory = put .memory })
+
+-- ---- the whole read
+
+no-ids : (from : BitReader) (n : ℕ) (ids : List ℕ) (r : SliceGroupRead) (x : Ans Fields) → idsGiven x ≡ [] → r ≡ resultOf from n x
+    → GroupsGiven from n (roomed (length ids) x) ids r ids
+unfolding filled
+no-ids from n ids r (got f q) none er = rw (none, le-ltb (length ids) 0 (omega arith)) (record { answers = er; memory = rw none })
+no-ids from n ids r (no k) none er = record { answers = er; memory = refl }
+
+module _ (s : List ℕ) (from : BitReader) (n : ℕ) (g : Geometry) (ids : List ℕ) (r : SliceGroupRead) where
+  abbrev w : ℕ
+  w = g .«pic_width_in_mbs»
+
+  abbrev z : ℕ
+  z = g .«pic_size_in_map_units»
+
+  abbrev p : ℕ
+  p = from .at .0
+
+  module _ (bad : Bool) (count : bad ≡ badGroupCount n) (k₀ : ℕ) (entry : k₀ ≡ entryFor s p (length ids) w z bad) where
+    pub read-entry : (k₀ ≡ 0 → ⊥) → r ≡ refusal from k₀ → ReadsGroups s from n g ids r ids
+    unfolding groupsOf filled
+    read-entry h er =
+        rw (← count, sym entry, behind-some k₀ (roomed (length ids) (sliceGroups n w z s p)) h) (record { answers = er; memory = refl })
+
+    module _ (pass : k₀ ≡ 0) where
+      pub read-stop : (k j : ℕ) → readUe s p ≡ no k → j ≡ k → r ≡ refusal from j → ReadsGroups s from n g ids r ids
+      unfolding groupsOf sliceGroups filled
+      read-stop k j e ej er = rw (← count, sym entry ∙ pass, e) (record { answers = rw (er, ej); memory = refl })
+
+      module _ (t q : ℕ) (first : readUe s p ≡ got t q) where
+        -- the answer is that of the type's fields
+        by-type : (x : Ans Fields) (ids′ : List ℕ) → byType n w z t s q ≡ x → GroupsGiven from n (roomed (length ids) x) ids r ids′ → ReadsGroups s from n g ids r ids′
+        unfolding groupsOf sliceGroups
+        by-type x ids′ e given = rw (← count, sym entry ∙ pass, first, e) given
+
+        pub type-0 : t ≡ 0 → r ≡ resultOf from n (runLengths n z s q) → ReadsGroups s from n g ids r ids
+        unfolding byType runLengths
+        type-0 e er = by-type (runLengths n z s q) ids (rw e) (no-ids from n ids r (runLengths n z s q) (go (row (ueBelow z badRunLength) (n + 1) s q)) er)
+          where
+            go : (y : Ans (List ℕ)) → idsGiven (andThen y (λ runs q. got (interleaved runs) q)) ≡ []
+            go (got runs q) = refl
+            go (no k) = refl
+
+        pub type-1 : t ≡ 1 → r ≡ whole (readerAt q) Dispersed n noRuns noRects 0 → ReadsGroups s from n g ids r ids
+        unfolding byType
+        type-1 e er = by-type (got dispersed q) ids (rw e) (no-ids from n ids r (got dispersed q) refl er)
+
+        pub type-2 : t ≡ 2 → r ≡ resultOf from n (rectangles n w z s q) → ReadsGroups s from n g ids r ids
+        unfolding byType rectangles
+        type-2 e er = by-type (rectangles n w z s q) ids (rw e) (no-ids from n ids r (rectangles n w z s q) (go (row (rectangle w z) n s q)) er)
+          where
+            go : (y : Ans (List SliceRect)) → idsGiven (andThen y (λ rects q. got (foreground rects) q)) ≡ []
+            go (got rects q) = refl
+            go (no k) = refl
+
+        pub type-3 : 2 < t → t < 6 → r ≡ resultOf from n (change t z s q) → ReadsGroups s from n g ids r ids
+        unfolding byType change
+        type-3 l h er =
+            by-type (change t z s q) ids
+            (simp (ne-eqb t 0 (λ e. omega arith), ne-eqb t 1 (λ e. omega arith), ne-eqb t 2 (λ e. omega arith), le-leb t 5 (omega arith)))
+            (no-ids from n ids r (change t z s q) (go (readBit s q)) er)
+          where
+            go2 : (flag : Bool) (y : Ans ℕ) → idsGiven (andThen y (λ rate q. got (changing t flag rate) q)) ≡ []
+            go2 flag (got rate q) = refl
+            go2 flag (no k) = refl
+
+            go : (y : Ans Bool) → idsGiven (andThen y (λ flag q. andThen (ueBelow z badChangeRate s q) (λ rate q. got (changing t flag rate) q))) ≡ []
+            go (got flag q) = go2 flag (ueBelow z badChangeRate s q)
+            go (no k) = refl
+
+        pub type-6 : (ids′ : List ℕ) → t ≡ 6 → GroupsGiven from n (roomed (length ids) (groupIds n z s q)) ids r ids′ → ReadsGroups s from n g ids r ids′
+        unfolding byType
+        type-6 ids′ e given = by-type (groupIds n z s q) ids′ (rw e) given
+
+        pub type-rest : 6 ≤ t → (t ≡ 6 → ⊥) → r ≡ refusal from 12 → ReadsGroups s from n g ids r ids
+        unfolding byType
+        type-rest l six er =
+            by-type (no 12) ids
+            (simp (ne-eqb t 0 (λ e. omega arith), ne-eqb t 1 (λ e. omega arith), ne-eqb t 2 (λ e. omega arith), lt-leb t 5 (omega arith), ne-eqb t 6 six))
+            (no-ids from n ids r (no 12) refl er)

@@ -1,0 +1,95 @@
+use mathlib.Core.Path.{_≡_, sym, ap, _∙_}
+use Rattle.bits.specs.Reading.{answer, bitAnswer, number}
+use Rattle.bits.specs.declared.Bits.{Bits}
+use Rattle.bits.specs.declared.Bit.{Bit}
+use Rattle.pps.proofs.Results.{flag-stop, rate-stop, change-end}
+use borrow.Author.Needs.{needs}
+use Rattle.pps.proofs.groups.read_change.Statement.{statement}
+use Rattle.pps.proofs.groups.read_change.Tie as tie
+use Rattle.pps.proofs.groups.read_change.Reads as reads
+use Rattle.pps.proofs.groups.read_change.Lts as lts
+use Rattle.bits.proofs.Bit.number.Reads as Bit-number-reads
+use Rattle.bits.proofs.BitReader.read_bit.Reads as read-bit-reads
+use Rattle.bits.proofs.Bits.number.Reads as Bits-number-reads
+use Rattle.pps.proofs.SliceGroupChangeType.from_id.Reads as from-id-reads
+use Rattle.pps.proofs.fields.read_ue_below.Reads as read-ue-below-reads
+use Rattle.pps.proofs.groups.plain.Reads as plain-reads
+use Rattle.pps.proofs.groups.refused.Reads as refused-reads
+
+read-bit-requires : tie.Need-read-bit-requires
+read-bit-requires c κs = search needs
+
+enum-known-direction : tie.Need-enum-known-direction
+enum-known-direction c = search needs
+
+enum-told : tie.Need-enum-told
+enum-told c = search needs
+
+number-requires : tie.Need-number-requires
+number-requires c κs = search needs
+
+refused-requires : tie.Need-refused-requires
+refused-requires c κs = search needs
+
+returns : tie.Need-returns
+returns c = let a = c .before .before .before .before .before .before .args in
+    let told = c .before .before .enum-told .given in
+    flag-stop (a .from) (a .num-slice-groups-minus1) (a .map-type) (a .size) (a .s .now) (a .next .at .0) (c .refused .result) (told .0 .0) (c .before .number .result)
+    (sym (c .before .before .before .before .read-bit .ensures .answers) ∙ ap bitAnswer (told .1)) (c .before .number .ensures ∙ ap (λ (x : Bit). number (bitAnswer x)) (told .1)) (c .refused .ensures)
+
+read-ue-below-requires : tie.Need-read-ue-below-requires
+read-ue-below-requires c κs = search needs
+
+enum-known-rate : tie.Need-enum-known-rate
+enum-known-rate c = search needs
+
+enum-told-2 : tie.Need-enum-told-2
+enum-told-2 c = search needs
+
+number-requires-2 : tie.Need-number-requires-2
+number-requires-2 c κs = search needs
+
+refused-requires-2 : tie.Need-refused-requires-2
+refused-requires-2 c κs = search needs
+
+returns-2 : tie.Need-returns-2
+returns-2 c = let a = c .before .before .before .before .before .before .before .before .before .before .args in
+    let told = c .before .before .enum-told2 .given in
+    let dir = c .before .before .before .before .before .before .direction .given in
+    rate-stop (a .from) (a .num-slice-groups-minus1) (a .map-type) (a .size) (a .s .now) (a .next .at .0) (c .refused2 .result) (dir .0 .0) (dir .0 .1 .0 .at .0) (told .0 .0) (c .before .number2 .result)
+    (sym (c .before .before .before .before .before .before .before .before .read-bit .ensures .answers) ∙ ap bitAnswer (dir .1)) (sym (c .before .before .before .before .read-ue-below .ensures .answers) ∙ ap answer (told .1))
+    (c .before .number2 .ensures ∙ ap (λ (x : Bits). number (answer x)) (told .1)) (c .refused2 .ensures)
+
+from-id-requires : tie.Need-from-id-requires
+from-id-requires c κs = search needs
+
+plain-requires : tie.Need-plain-requires
+plain-requires c κs = search needs
+
+returns-3 : tie.Need-returns-3
+returns-3 c = let a = c .before .before .before .before .before .before .before .before .before .before .before .args in
+    let dir = c .before .before .before .before .before .before .before .direction .given in
+    let rate = c .before .before .before .rate .given in
+    change-end (a .from) (a .num-slice-groups-minus1) (a .map-type) (a .size) (a .s .now) (a .next .at .0) (c .plain .result) (dir .0 .0) (dir .0 .1 .0 .at .0) (rate .0 .0) (rate .0 .1 .0 .at .0)
+    (c .before .from-id .result) (sym (c .before .before .before .before .before .before .before .before .before .read-bit .ensures .answers) ∙ ap bitAnswer (dir .1)) (sym (c .before .before .before .before .before .read-ue-below .ensures .answers) ∙ ap answer (rate .1))
+    (c .before .from-id .ensures) (c .plain .ensures)
+
+pub read-change-spec : {M : Type 1} → statement M
+read-change-spec =
+    tie.close
+    (tie.spec
+    read-bit-requires
+    enum-known-direction
+    enum-told
+    number-requires
+    refused-requires
+    returns
+    read-ue-below-requires
+    enum-known-rate
+    enum-told-2
+    number-requires-2
+    refused-requires-2
+    returns-2
+    from-id-requires
+    plain-requires
+    returns-3)

@@ -1,0 +1,4 @@
+-- What the contracts and laws of `pps` cite.
+pub mod Rule
+pub mod Step
+pub mod Answer
