@@ -402,7 +402,12 @@ fn desk(tally: &mut Tally) {
     held("decode_nal", "a long NAL", &raw::decode_nal(&long, &mut []), &[1, 0, 0]);
     held("decode_nal", "a long room", &raw::decode_nal(&[], &mut lent), &[1, 0, 0]);
     held("decode_nal", "as long as may be", &raw::decode_nal(&long[1..], &mut []), &[0, 0, 0]);
-    held("ByteReader::push", "as long as may be", &raw::byte_reader_push(0, 0, false, &long[1..], &mut lent[1..]), &[0, MOST as u64, MOST as u64, 0, 0, 0]);
+    held(
+        "ByteReader::push",
+        "as long as may be",
+        &raw::byte_reader_push(0, 0, false, &long[1..], &mut lent[1..]),
+        &[0, MOST as u64, MOST as u64, 0, 0, 0],
+    );
     held("ByteWriter::push", "as long as may be", &raw::byte_writer_push(0, &long[1..], &mut lent[1..]), &[0, MOST as u64, MOST as u64, 0]);
 }
 

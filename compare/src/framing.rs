@@ -234,7 +234,8 @@ fn any(tally: &mut Tally, how: How, random: &mut Random, s: &[u8]) {
     assert!(handed.bytes == fronts.handed.bytes && handed.ends == fronts.handed.ends);
     let (w, m) = (fronts.handed.bytes.len(), fronts.handed.ends.len());
     follow(tally, how, s, &fronts, &[Call::Push(s.len(), w + random.below(3), m + random.below(2)), Call::Reset(2, 1)]);
-    let short = [Call::Push(s.len(), random.below(w + 1), random.below(m + 1)), Call::Push(s.len(), 3, 1), Call::Push(s.len(), w, m), Call::Reset(1, 1)];
+    let short =
+        [Call::Push(s.len(), random.below(w + 1), random.below(m + 1)), Call::Push(s.len(), 3, 1), Call::Push(s.len(), w, m), Call::Reset(1, 1)];
     follow(tally, How::ShortRooms, s, &fronts, &short);
     let sequence = calls(random, s.len());
     follow(tally, How::Sequences, s, &fronts, &sequence);

@@ -223,7 +223,12 @@ fn compare_rect(tally: &mut Tally, how: How, p: &Picture, s: &[u8], at: usize) {
     let expected = original_rect(p, s, at);
     let answer = raw::read_slice_rect(at, s, p.width, p.size);
     if answer != expected {
-        differ("SliceRect::read", &format!("{} at bit {at}, width {}, size {}", hex(s), p.width, p.size), &format!("{expected:?}"), &format!("{answer:?}"));
+        differ(
+            "SliceRect::read",
+            &format!("{} at bit {at}, width {}, size {}", hex(s), p.width, p.size),
+            &format!("{expected:?}"),
+            &format!("{answer:?}"),
+        );
     }
     tally.count("SliceRect::read", how);
 }
@@ -321,7 +326,9 @@ fn desk(tally: &mut Tally) {
     groups(&long, 9, 0, 0, 0, &mut [], 1, 9);
     groups(&[], 9, 0, 0, 0, &mut lent, 1, 9);
     groups(&[0x40], 9, 0, 0, 0, &mut [], 2, 9);
-    for (n, width, size) in [(0, 1, 1), (8, 1, 1), (u32::MAX, 1, 1), (1, 0, 1), (1, 1, 0), (1, 2, 3), (1, 1, 36_865), (1, 2, 36_866), (1, 3, 2), (1, u32::MAX, 36_864)] {
+    for (n, width, size) in
+        [(0, 1, 1), (8, 1, 1), (u32::MAX, 1, 1), (1, 0, 1), (1, 1, 0), (1, 2, 3), (1, 1, 36_865), (1, 2, 36_866), (1, 3, 2), (1, u32::MAX, 36_864)]
+    {
         groups(&[0x40], 0, n, width, size, &mut [], 11, 0);
     }
     for (n, width, size) in [(1, 1, 1), (7, 1, 36_864), (1, 36_864, 36_864)] {
@@ -348,7 +355,8 @@ fn desk(tally: &mut Tally) {
 pub fn run(tally: &mut Tally, random: &mut Random, rounds: usize) {
     let small = [picture(1, 1), picture(2, 2), picture(4, 3)];
     exhaustive(tally, &small);
-    let pictures = [picture(1, 1), picture(3, 2), picture(5, 7), picture(11, 9), picture(80, 45), picture(1, 36_864), picture(36_864, 1), picture(256, 144)];
+    let pictures =
+        [picture(1, 1), picture(3, 2), picture(5, 7), picture(11, 9), picture(80, 45), picture(1, 36_864), picture(36_864, 1), picture(256, 144)];
     for _ in 0..rounds {
         let p = &pictures[random.below(pictures.len())];
         let (good, at, n) = good_groups(random, p, 600);

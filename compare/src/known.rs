@@ -73,7 +73,13 @@ pub fn run() {
     std::panic::set_hook(Box::new(|_| {}));
     let panics = std::panic::catch_unwind(|| rbsp::decode_nal(&[])).is_err();
     std::panic::set_hook(hook);
-    is("decode_nal of nothing", if panics { "panics" } else { "answers" }, "panics", if raw::decode_nal(&[], &mut []) == [8, 0, 0] { "8" } else { "?" }, "8");
+    is(
+        "decode_nal of nothing",
+        if panics { "panics" } else { "answers" },
+        "panics",
+        if raw::decode_nal(&[], &mut []) == [8, 0, 0] { "8" } else { "?" },
+        "8",
+    );
 
     let s = [0x41, 0, 0, 0];
     is("bytes before the forbidden one of 41 00 00 00, in one piece", delivered(&s, 9).0, vec![], port_delivers(&s), vec![0x41, 0, 0]);
@@ -89,7 +95,13 @@ pub fn run() {
     let mut endless = rbsp::BitWriter::new(Short(1 << 20, false));
     let failed = endless.write_ue(u32::MAX).is_err();
     let zeros = failed && !endless.into_writer().1;
-    is("write_ue(2^32-1)", if zeros { "writes over a MiB of zeros" } else { "?" }, "writes over a MiB of zeros", &number(raw::write_ue(0, 0, 0, &mut [0; 16], u32::MAX)), "9");
+    is(
+        "write_ue(2^32-1)",
+        if zeros { "writes over a MiB of zeros" } else { "?" },
+        "writes over a MiB of zeros",
+        &number(raw::write_ue(0, 0, 0, &mut [0; 16], u32::MAX)),
+        "9",
+    );
 
     let mut reader = rbsp::BitReader::new(&[0x80, 0x80][..]);
     assert!(reader.read_var::<u32>(17, "").is_err());

@@ -41,7 +41,6 @@ impl Tally {
         self.counts.entry(call).or_default()[how as usize] += 1;
     }
 
-
     pub fn total(&self) -> u64 {
         self.counts.values().flatten().sum()
     }

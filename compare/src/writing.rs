@@ -197,7 +197,12 @@ fn desk(tally: &mut Tally) {
         let before = out.to_vec();
         let (number, after) = port(state, out, call);
         if number != expected || after != state || before != out {
-            differ(call.name(), &format!("writer {state:?}, a room of {}, {call:?}", out.len()), &format!("document 01: {expected}"), &format!("{number} {after:?}"));
+            differ(
+                call.name(),
+                &format!("writer {state:?}, a room of {}, {call:?}", out.len()),
+                &format!("document 01: {expected}"),
+                &format!("{number} {after:?}"),
+            );
         }
         tally.count(call.name(), How::Desk);
     };

@@ -13,21 +13,8 @@ mod c {
             out_len: usize,
             answer: *mut [u64; 6],
         );
-        pub fn dampfeather_byte_writer_push(
-            zero_count: u8,
-            chunk: *const u8,
-            chunk_len: usize,
-            out: *mut u8,
-            out_len: usize,
-            answer: *mut [u64; 4],
-        );
-        pub fn dampfeather_decode_nal(
-            nal: *const u8,
-            nal_len: usize,
-            room: *mut u8,
-            room_len: usize,
-            answer: *mut [u64; 3],
-        );
+        pub fn dampfeather_byte_writer_push(zero_count: u8, chunk: *const u8, chunk_len: usize, out: *mut u8, out_len: usize, answer: *mut [u64; 4]);
+        pub fn dampfeather_decode_nal(nal: *const u8, nal_len: usize, room: *mut u8, room_len: usize, answer: *mut [u64; 3]);
         pub fn dampfeather_annexb_push(
             in_unit: bool,
             zeros: u8,
@@ -58,27 +45,11 @@ mod c {
         pub fn dampfeather_finish_sei_payload(at: usize, s: *const u8, s_len: usize) -> u8;
         pub fn dampfeather_byte_aligned(at: usize) -> bool;
         pub fn dampfeather_golomb_to_signed(val: u32, value: *mut i32) -> u8;
-        pub fn dampfeather_write(
-            written: usize,
-            pending: u8,
-            count: u8,
-            out: *mut u8,
-            out_len: usize,
-            width: u32,
-            value: u32,
-            answer: *mut [u64; 4],
-        );
+        pub fn dampfeather_write(written: usize, pending: u8, count: u8, out: *mut u8, out_len: usize, width: u32, value: u32, answer: *mut [u64; 4]);
         pub fn dampfeather_write_bit(written: usize, pending: u8, count: u8, out: *mut u8, out_len: usize, bit: bool, answer: *mut [u64; 4]);
         pub fn dampfeather_write_ue(written: usize, pending: u8, count: u8, out: *mut u8, out_len: usize, value: u32, answer: *mut [u64; 4]);
         pub fn dampfeather_write_se(written: usize, pending: u8, count: u8, out: *mut u8, out_len: usize, value: i32, answer: *mut [u64; 4]);
-        pub fn dampfeather_write_rbsp_trailing_bits(
-            written: usize,
-            pending: u8,
-            count: u8,
-            out: *mut u8,
-            out_len: usize,
-            answer: *mut [u64; 4],
-        );
+        pub fn dampfeather_write_rbsp_trailing_bits(written: usize, pending: u8, count: u8, out: *mut u8, out_len: usize, answer: *mut [u64; 4]);
         pub fn dampfeather_byte_of(at: usize, answer: *mut [u64; 2]);
         pub fn dampfeather_writer_byte_aligned(written: usize, pending: u8, count: u8) -> bool;
         pub fn dampfeather_read_num_ref_idx(at: usize, s: *const u8, s_len: usize, answer: *mut [u64; 3]);
@@ -103,9 +74,7 @@ mod c {
 /// Number, bytes taken, bytes written; then the state: zeros, bytes yet to drop, 1 behind a removed 03.
 pub fn byte_reader_push(zeros: u8, skip: usize, post_three: bool, chunk: &[u8], out: &mut [u8]) -> [u64; 6] {
     let mut answer = [0; 6];
-    unsafe {
-        c::dampfeather_byte_reader_push(zeros, skip, post_three, chunk.as_ptr(), chunk.len(), out.as_mut_ptr(), out.len(), &mut answer)
-    };
+    unsafe { c::dampfeather_byte_reader_push(zeros, skip, post_three, chunk.as_ptr(), chunk.len(), out.as_mut_ptr(), out.len(), &mut answer) };
     answer
 }
 
