@@ -1,0 +1,177 @@
+// Writing bits: the calls of `bits`. A writer is the count of bytes written, the pending bits as a number, and their count.
+ghost use mathlib.Core.Path.{_≡_};
+ghost use lib.Dec.{eqb};
+ghost use Rattle.bits.specs.Answer.{writeBits, writeBit, writeUe, writeSe, writeTrailing, mapped};
+ghost use Rattle.exports.specs.Bits.{writerAt, putState, putNumbers, FrontsPut, mappedValue, mappedNumber, FrontsMapped};
+use super::numbers::wide;
+use bits::BitWriter;
+use bits::BytePos;
+use bits::Mapped;
+use bits::Put;
+use bits::golomb::golomb_to_signed;
+
+fn put_state(number: u8, s: BitWriter) -> [u64; 4]
+    ensures { λ a. ⌜ a ≡ putState number s ⌝ }
+{
+    [
+        wide(number),
+        s.written.0 as u64,
+        wide(s.pending),
+        wide(s.count),
+    ]
+}
+
+fn put_numbers(r: Put) -> [u64; 4]
+    ensures { λ a. ⌜ a ≡ putNumbers r ⌝ }
+{
+    match r {
+        Put::Done(s) => put_state(desk::DONE, s),
+        Put::Refused(n, s) => put_state(n, s),
+    }
+}
+
+// BitWriter::write: u(width) of value. The answer: number, and the writer: bytes written, pending bits, their count.
+#[no_mangle]
+pub extern "C" fn dampfeather_write(
+    written: usize,
+    pending: u8,
+    count: u8,
+    out: &mut [u8],
+    width: u32,
+    value: u32,
+    answer: &mut [u64; 4],
+)
+    ensures { λ _. ⌜ FrontsPut (writerAt written pending count) (now (out .exit)) (writeBits (now (out .entry)) written pending count width value) (now (answer .exit)) ⌝ }
+{
+    let writer = BitWriter {
+        written: BytePos(written),
+        pending,
+        count,
+    };
+    let r = writer.write(out, width, value);
+    *answer = put_numbers(r);
+}
+
+// BitWriter::write_bit. The answer is as write's.
+#[no_mangle]
+pub extern "C" fn dampfeather_write_bit(
+    written: usize,
+    pending: u8,
+    count: u8,
+    out: &mut [u8],
+    bit: bool,
+    answer: &mut [u64; 4],
+)
+    ensures { λ _. ⌜ FrontsPut (writerAt written pending count) (now (out .exit)) (writeBit (now (out .entry)) written pending count bit) (now (answer .exit)) ⌝ }
+{
+    let writer = BitWriter {
+        written: BytePos(written),
+        pending,
+        count,
+    };
+    let r = writer.write_bit(out, bit);
+    *answer = put_numbers(r);
+}
+
+// BitWriter::write_ue. The answer is as write's.
+#[no_mangle]
+pub extern "C" fn dampfeather_write_ue(
+    written: usize,
+    pending: u8,
+    count: u8,
+    out: &mut [u8],
+    value: u32,
+    answer: &mut [u64; 4],
+)
+    ensures { λ _. ⌜ FrontsPut (writerAt written pending count) (now (out .exit)) (writeUe (now (out .entry)) written pending count value) (now (answer .exit)) ⌝ }
+{
+    let writer = BitWriter {
+        written: BytePos(written),
+        pending,
+        count,
+    };
+    let r = writer.write_ue(out, value);
+    *answer = put_numbers(r);
+}
+
+// BitWriter::write_se. The answer is as write's.
+#[no_mangle]
+pub extern "C" fn dampfeather_write_se(
+    written: usize,
+    pending: u8,
+    count: u8,
+    out: &mut [u8],
+    value: i32,
+    answer: &mut [u64; 4],
+)
+    ensures { λ _. ⌜ FrontsPut (writerAt written pending count) (now (out .exit)) (writeSe (now (out .entry)) written pending count value) (now (answer .exit)) ⌝ }
+{
+    let writer = BitWriter {
+        written: BytePos(written),
+        pending,
+        count,
+    };
+    let r = writer.write_se(out, value);
+    *answer = put_numbers(r);
+}
+
+// BitWriter::write_rbsp_trailing_bits. The answer is as write's.
+#[no_mangle]
+pub extern "C" fn dampfeather_write_rbsp_trailing_bits(
+    written: usize,
+    pending: u8,
+    count: u8,
+    out: &mut [u8],
+    answer: &mut [u64; 4],
+)
+    ensures { λ _. ⌜ FrontsPut (writerAt written pending count) (now (out .exit)) (writeTrailing (now (out .entry)) written pending count) (now (answer .exit)) ⌝ }
+{
+    let writer = BitWriter {
+        written: BytePos(written),
+        pending,
+        count,
+    };
+    let r = writer.write_rbsp_trailing_bits(out);
+    *answer = put_numbers(r);
+}
+
+// BitWriter::byte_aligned.
+#[no_mangle]
+pub extern "C" fn dampfeather_writer_byte_aligned(written: usize, pending: u8, count: u8) -> bool
+    ensures { λ r. ⌜ r ≡ eqb count 0 ⌝ }
+{
+    let writer = BitWriter {
+        written: BytePos(written),
+        pending,
+        count,
+    };
+    writer.byte_aligned()
+}
+
+fn mapped_number(r: Mapped) -> u8
+    ensures { λ n. ⌜ n ≡ mappedNumber r ⌝ }
+{
+    match r {
+        Mapped::Value(_) => desk::DONE,
+        Mapped::Refused(n) => n,
+    }
+}
+
+fn mapped_value(r: Mapped) -> i32
+    ensures { λ z. ⌜ z ≡ mappedValue r ⌝ }
+{
+    match r {
+        Mapped::Value(z) => z,
+        Mapped::Refused(_) => 0,
+    }
+}
+
+// golomb_to_signed, its number. Of a refusal the value is 0.
+#[no_mangle]
+pub extern "C" fn dampfeather_golomb_to_signed(val: u32, value: &mut i32) -> u8
+    ensures { λ n. ⌜ FrontsMapped (mapped val) (now (value .exit)) n ⌝ }
+{
+    let r = golomb_to_signed(val);
+    *value = mapped_value(r);
+    mapped_number(r)
+}

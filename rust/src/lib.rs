@@ -1,0 +1,2 @@
+//! The H.264 byte-stream layer.
+pub mod raw;
