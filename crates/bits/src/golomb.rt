@@ -23,7 +23,7 @@ pub fn signed_of(k: u32) -> i32
 pub fn golomb_to_signed(val: u32) -> Mapped
     ensures { λ r. ⌜ mappedAnswer r ≡ mapped val ⌝ }
 {
-    if val == 4294967295 {
+    if val == u32::MAX {
         return Mapped::Refused(desk::NO_CODE);
     }
     Mapped::Value(signed_of(val))

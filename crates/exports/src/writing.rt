@@ -8,7 +8,7 @@ use bits::BitWriter;
 use bits::BytePos;
 use bits::Mapped;
 use bits::Put;
-use bits::golomb::golomb_to_signed;
+use bits::golomb_to_signed;
 
 fn put_state(number: u8, s: BitWriter) -> [u64; 4]
     ensures { λ a. ⌜ a ≡ putState number s ⌝ }

@@ -1,7 +1,5 @@
 // What every read of slice groups is given, and the entry checks that tell whether it describes a picture.
 ghost use mathlib.Core.Path.{_≡_};
-ghost use lib.ListN.{length};
-ghost use Rattle.bits.specs.Reading.{pastEnd};
 ghost use Rattle.pps.specs.Rule.{badPicture, badGroupCount};
 ghost use Rattle.pps.specs.Answer.{entryFor};
 use super::Geometry;
