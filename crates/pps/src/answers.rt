@@ -7,7 +7,7 @@ use super::SliceGroups;
 use super::SliceRect;
 use bits::BitReader;
 
-pub fn no_rectangles() -> [SliceRect; 7]
+pub(crate) fn no_rectangles() -> [SliceRect; 7]
     ensures { λ r. ⌜ r ≡ noRects ⌝ }
 {
     let none = SliceRect {
@@ -18,7 +18,7 @@ pub fn no_rectangles() -> [SliceRect; 7]
 }
 
 // A refusal: the reader as it came, and groups that are all 0.
-pub fn refused(number: u8, from: BitReader) -> SliceGroupRead
+pub(crate) fn refused(number: u8, from: BitReader) -> SliceGroupRead
     ensures { λ r. ⌜ r ≡ refusal from number ⌝ }
 {
     let run_length_minus1 = [0u32; 8];
@@ -37,7 +37,7 @@ pub fn refused(number: u8, from: BitReader) -> SliceGroupRead
 }
 
 // A read that came to its end.
-pub fn given(
+pub(crate) fn given(
     at: BitReader,
     group: SliceGroup,
     num_slice_groups_minus1: u32,
@@ -61,7 +61,7 @@ pub fn given(
 }
 
 // One of a case that uses no array.
-pub fn plain(
+pub(crate) fn plain(
     at: BitReader,
     group: SliceGroup,
     num_slice_groups_minus1: u32,

@@ -32,7 +32,7 @@ fn put_ids(s: &[u8], from: BitReader, count: usize, width: u32, ids: &mut [u8]) 
 }
 
 // Nothing is written before the bits of every id and room for them are known to be there.
-pub fn read_group_ids(
+pub(crate) fn read_group_ids(
     s: &[u8],
     from: BitReader,
     next: BitReader,
