@@ -1,7 +1,9 @@
 //! The original and the port beside each other.
 //!
 //!     compare run [ROUNDS [SEED]]    ROUNDS random inputs of each kind, beside the exhaustive ones
+//!     compare bench [TURNS]          times of both sides, in turns
 //!     compare record FOLDER          a sample of the original's answers, into FOLDER/data and FOLDER/stdout
+mod bench;
 mod escaping;
 mod framing;
 mod groups;
@@ -17,9 +19,10 @@ fn main() {
     let number = |i: usize, default: u64| words.get(i).map_or(default, |w| w.parse().expect("a number"));
     match words.first().map(String::as_str) {
         Some("run") => run(number(1, 20_000) as usize, number(2, 1)),
+        Some("bench") => bench::run(number(1, 15) as usize),
         Some("record") => record::run(words.get(1).expect("a folder").as_ref(), 1),
         _ => {
-            eprintln!("usage: compare run [ROUNDS [SEED]] | record FOLDER");
+            eprintln!("usage: compare run [ROUNDS [SEED]] | bench [TURNS] | record FOLDER");
             std::process::exit(2);
         }
     }

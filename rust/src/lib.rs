@@ -1,2 +1,27 @@
-//! The H.264 byte-stream layer.
+//! The H.264 byte-stream layer, proved: escaping, bits, Annex B framing and slice groups, behind the names of h264-reader.
+//!
+//! The work is done by a static library that is written in Rattle and proved against its contracts; this crate lends it slices and turns its numbers into
+//! Rust's types. Nothing here panics on any input, and a refusal leaves the reader or writer as it was.
+//!
+//! A recorder that wants the units of a stream, and their payloads:
+//!
+//! ```
+//! use dampfeather::{decode_nal, units};
+//!
+//! let stream = b"\x00\x00\x00\x01\x68\x12\x34\x00\x00\x03\x00\x86\x00\x00\x01\x09\x10";
+//! let units: Vec<Vec<u8>> = units(&stream[..]).collect::<Result<_, _>>().unwrap();
+//! assert_eq!(units, [&b"\x68\x12\x34\x00\x00\x03\x00\x86"[..], b"\x09\x10"]);
+//! assert_eq!(decode_nal(&units[0]).unwrap(), &b"\x12\x34\x00\x00\x00\x86"[..]);
+//! ```
+mod bits;
+mod error;
+mod escaping;
+mod framing;
+mod groups;
 pub mod raw;
+
+pub use bits::{golomb_to_signed, BitReader, BitWriter};
+pub use error::Error;
+pub use escaping::{decode_nal, decode_nal_into, ByteReader, ByteWriter, Pushed};
+pub use framing::{units, AnnexBReader, Framed, Units};
+pub use groups::{read_num_ref_idx, Geometry, SliceGroup, SliceGroupChangeType, SliceRect};
