@@ -14,6 +14,7 @@ use Rattle.desk.proofs.Entering.{entry-passed, entry-done, entry-long, entry-ba
 use Rattle.bits.specs.Rule.{size}
 use Rattle.bits.specs.Answer.{pastEnd, entryAt, badWriter, entryOn, unless}
 use Rattle.bits.specs.Step.{Good}
+use Rattle.bits.specs.declared.BitWriter.{BitWriter}
 use Rattle.bits.specs.Reading.{Entered, WhyEntry, long, past}
 
 -- what a number of the checks says, for one lent buffer
@@ -72,18 +73,21 @@ neither false false h = (refl, refl)
 neither false true h = absurd (let z : _≡_ {A = ℕ} 0 1 = cc in omega arith)
 neither true b h = absurd (let z : _≡_ {A = ℕ} 0 1 = cc in omega arith)
 
-module _ (len w p c : ℕ) where
-  pub good : entryOn len w p c ≡ 0 → Good len w p c
+module _ (len : ℕ) (st : BitWriter) where
+  pub good : entryOn len st ≡ 0 → Good len st
   good e =
-      let h = entry-passed (len ∷ 0 ∷ 0 ∷ []) (badWriter len w p c) e in
-      let a = neither (ltb len w) (ltb 7 c || leb (2 ^ c) p) (h .1) in
-      let b = neither (ltb 7 c) (leb (2 ^ c) p) (a .1) in
-      record { small = h .0 .0; within = ltb-false len w (a .0); few = ltb-false 7 c (b .0); below = leb-false (2 ^ c) p (b .1) }
+      let h = entry-passed (len ∷ 0 ∷ 0 ∷ []) (badWriter len st) e in
+      let a = neither (ltb len (st .written .0)) (ltb 7 (st .count) || leb (2 ^ st .count) (st .pending)) (h .1) in
+      let b = neither (ltb 7 (st .count)) (leb (2 ^ st .count) (st .pending)) (a .1) in
+      record {
+        small = h .0 .0;
+        within = ltb-false len (st .written .0) (a .0);
+        few = ltb-false 7 (st .count) (b .0);
+        below = leb-false (2 ^ st .count) (st .pending) (b .1);
+      }
 
-  pub good-enters : Good len w p c → entryOn len w p c ≡ 0
-  good-enters g =
-      entry-done (len ∷ 0 ∷ 0 ∷ []) (badWriter len w p c) (g .small, (omega arith, (omega arith, tt)))
-      (rw (le-ltb len w (g .within), le-ltb 7 c (g .few), lt-leb (2 ^ c) p (g .below)))
+  pub good-state : Good len st → badWriter len st ≡ false
+  good-state g = rw (le-ltb len (st .written .0) (g .within), le-ltb 7 (st .count) (g .few), lt-leb (2 ^ st .count) (st .pending) (g .below))
 
 -- ---- a number of the checks is answered, and else what comes behind them
 module _ {A : Type 0} (refuse : ℕ → A) (e k : ℕ) (is : e ≡ k) where
@@ -96,3 +100,8 @@ module _ {A : Type 0} (refuse : ℕ → A) (e k : ℕ) (is : e ≡ k) where
 
   pub passed : {x y : A} → e ≡ 0 → y ≡ x → y ≡ unless refuse k x
   passed {x} h q = q ∙ ap (λ (n : ℕ). unless refuse n x) (sym h ∙ is)
+
+-- what holds of each number of the checks, and of what comes behind them, holds of the answer
+pub unless-by : {A : Type 0} (P : A → Type 0) (refuse : ℕ → A) (n : ℕ) (x : A) → ((k : ℕ) → n ≡ suc k → P (refuse (suc k))) → (n ≡ 0 → P x) → P (unless refuse n x)
+unless-by P refuse zero x f g = g refl
+unless-by P refuse (suc k) x f g = f k refl

@@ -2,8 +2,8 @@
 pub mod Value
 pub mod Trailing
 pub mod Ones
+pub mod Found
 pub mod Entry
-pub mod Taking
 pub mod Top
 pub mod Signs
 pub mod Storing

@@ -9,10 +9,10 @@ use lib.ListN.{length, take, drop, length-append, length-drop}
 use lib.Seq.{take-nil, take-take, drop-drop, take-append-le, drop-append-le, drop-append-add}
 use Rattle.desk.specs.Numbers.{most}
 use Rattle.bits.specs.Rule.{size, bits, Stands}
-use Rattle.bits.specs.Answer.{Ans, got, no, andThen, readBits, readBit, readUe, readSe}
+use Rattle.bits.specs.Answer.{Ans, got, no, andThen, readBits, readBit, readUe, readSe, skipped}
 use Rattle.bits.specs.Reading.{ReadsCodes, SameBits, Local}
 use Rattle.bits.proofs.Codes.{length-bits, bits-append}
-use Rattle.bits.proofs.Reading.{bits-codes, bits-width, bit-codes, ue-codes, se-codes}
+use Rattle.bits.proofs.Reading.{bits-codes, bits-width, bit-codes, ue-codes, se-codes, skip-took, skip-give}
 
 -- ---- parts of the same bits
 
@@ -94,6 +94,21 @@ bits-local n =
       within = λ s p v q e. codes-local (bits-codes n (bits-width s p n v q e)) .within s p v q e;
       again = λ s p v q t p′ e. codes-local (bits-codes n (bits-width s p n v q e)) .again s p v q t p′ e;
     }
+
+pub skip-local : (n : ℕ) → Local (λ s p. skipped s p n)
+skip-local n =
+    record {
+      grows = λ s p v q e. let t = skip-took s p n v q e .next in omega arith;
+      within = λ s p v q e _. skip-took s p n v q e .within;
+      again = again;
+    }
+  where
+    again : (s : List ℕ) (p : ℕ) (v : Unit) (q : ℕ) (t : List ℕ) (p′ : ℕ) → skipped s p n ≡ got v q → SameBits s p t p′ (q - p) → skipped t p′ n ≡ got v (p′ + (q - p))
+    again s p v q t p′ e b =
+        let k = skip-took s p n v q e .next in
+        let w = b .within in
+        let len : q - p ≡ n = omega arith in
+        skip-give t p′ n v (record { small = b .small; within = omega arith }) (omega arith) ∙ ap (λ (i : ℕ). got v (p′ + i)) (sym len)
 
 -- ---- and so does a chain of them
 

@@ -1,7 +1,7 @@
 -- Each value has one code: values and codes correspond one to one, and no code is a prefix of another. Assumes nothing.
 use mathlib.Core.Path.{_≡_, refl, sym, ap, ap₂, _∙_, subst}
 use mathlib.Core.List.{List, [], _∷_, _++_, append-assoc, append-nil}
-use Prim.Native.Nat.{ℕ, zero, suc, _+_, _-_, _*_, _/_, _%_, _^_, _≤_, _<_}
+use Prim.Native.Nat.{ℕ, zero, suc, _+_, _-_, _*_, _/_, _%_, _^_, _<_}
 use native.Mathlib.Nat.{pow-suc}
 use native.Mathlib.Omega.{arith}
 use lib.ListN.{length, getD, take, drop, replicate}
@@ -10,7 +10,7 @@ use lib.Pow.{pow-add, pow-pos, pow-mono, high, low}
 use lib.Arith.{digits-lt}
 use native.Mathlib.Numerals.{one-add}
 use lib.IntN.{ℤ}
-use Rattle.bits.specs.Rule.{bitsOf, ueCode, UeRange, prefixOf, seCode, SeRange, signedOf, unsignedOf}
+use Rattle.bits.specs.Rule.{AllBits, UeForm, bitsOf, ueCode, UeRange, prefixOf, seCode, SeRange, signedOf, unsignedOf}
 use Rattle.bits.proofs.Codes.{length-bits-of, bits-split, bits-mod, no-bits}
 use Rattle.bits.proofs.Top.{prefix, top-is}
 use Rattle.bits.proofs.Signs.{signed-unsigned, has-code}
@@ -87,10 +87,6 @@ se-apart v w hv hw x y e =
 
 -- ---- each list of the code's form is the code of a value
 
-abbrev pub AllBits : List ℕ → Type 0
-AllBits [] = Unit
-AllBits (b ∷ l) = (b < 2) × AllBits l
-
 number : List ℕ → ℕ
 number [] = 0
 number (b ∷ l) = b * 2 ^ length l + number l
@@ -111,18 +107,39 @@ bits-number (b ∷ l) h =
     (ap (bitsOf 1) (high b n below) ∙ bit-list b (h .0))
     (sym (bits-mod n (b * 2 ^ n + number l)) ∙ ap (bitsOf n) (low b n below) ∙ bits-number l (h .1))
 
-pub code-of : (m : ℕ) (b : List ℕ) → m ≤ 31 → length b ≡ m → AllBits b → (v : ℕ) × UeRange v × (ueCode v ≡ replicate m 0 ++ (1 ∷ b))
+-- a list of the code's form is the code of a value
+pub form-ue : {code : List ℕ} → UeForm code → (v : ℕ) × UeRange v × (ueCode v ≡ code)
 unfolding ueCode
-code-of m b h l a =
+form-ue {code} c =
+    let m = c .zeros in
+    let b = c .rest in
     let x = number b in
-    let below : x < 2 ^ m = subst (λ (i : ℕ). x < 2 ^ i) l (number-lt b a) in
+    let few = c .few in
+    let below : x < 2 ^ m = subst (λ (i : ℕ). x < 2 ^ i) (c .long) (number-lt b (c .bits)) in
     let v = 2 ^ m - 1 + x in
     let above = pow-pos m in
-    let p : prefixOf v ≡ m = top-is 31 (v + 1) m h (omega arith) (omega (arith, pow-suc 2 m)) in
+    let p : prefixOf v ≡ m = top-is 31 (v + 1) m few (omega arith) (omega (arith, pow-suc 2 m)) in
     let rest : v + 1 - 2 ^ m ≡ x = omega arith in
-    let tail : bitsOf m x ≡ b = ap (λ (i : ℕ). bitsOf i x) (sym l) ∙ bits-number b a in (
+    let tail : bitsOf m x ≡ b = ap (λ (i : ℕ). bitsOf i x) (sym (c .long)) ∙ bits-number b (c .bits) in (
       v,
-      omega (arith, pow-mono {i = m} {j = 31} h),
-      ap (λ (i : ℕ). replicate i 0 ++ (1 ∷ bitsOf i (v + 1 - 2 ^ i))) p ∙ ap (λ (i : ℕ). replicate m 0 ++ (1 ∷ bitsOf m i)) rest
-          ∙ ap (λ (c : List ℕ). replicate m 0 ++ (1 ∷ c)) tail,
+      omega (arith, pow-mono {i = m} {j = 31} few),
+      ap (λ (i : ℕ). replicate i 0 ++ (1 ∷ bitsOf i (v + 1 - 2 ^ i))) p ∙ ap (λ (l : List ℕ). replicate m 0 ++ (1 ∷ l)) (ap (bitsOf m) rest ∙ tail)
+          ∙ sym (c .is),
     )
+
+-- and the code of a value has that form
+all-append : (a b : List ℕ) → AllBits a → AllBits b → AllBits (a ++ b)
+all-append [] b h k = k
+all-append (x ∷ a) b h k = (h .0, all-append a b (h .1) k)
+
+bits-all : (n v : ℕ) → AllBits (bitsOf n v)
+unfolding bitsOf
+bits-all zero v = tt
+bits-all (suc n) v = all-append (bitsOf n (v / 2)) (v % 2 ∷ []) (bits-all n (v / 2)) (omega arith, tt)
+
+pub ue-form : (v : ℕ) → UeRange v → UeForm (ueCode v)
+unfolding ueCode
+ue-form v h =
+    let m = prefixOf v in
+    let x = v + 1 - 2 ^ m in
+    record { zeros = m; few = prefix v h .short; rest = bitsOf m x; bits = bits-all m x; long = length-bits-of m x; is = refl }

@@ -1,22 +1,21 @@
--- The first one and the last one, by places. Assumes nothing.
+-- The first one and the last one, by values: what the searches of the code find. Assumes nothing.
 use mathlib.Core.Path.{_≡_, refl, sym, ap, ap₂, _∙_, subst}
 use mathlib.Core.List.{List}
 use mathlib.Core.Option.{Option, none, some}
-use mathlib.Core.Bool.{Bool, true, false, cond}
+use mathlib.Core.Bool.{true, false}
 use mathlib.Core.Logic.{_⊎_, inl, inr, dite}
 use native.Mathlib.Decide.{decLt}
 use Prim.Native.Nat.{ℕ, zero, suc, _+_, _-_, _*_, _/_, _%_, _^_, _≤_, _<_}
 use native.Mathlib.Nat.{eq-or-lt-of-le, lt-of-le-of-lt, div-eq-of-lt-le, pow-suc, div-one, add-zero, add-suc, add-assoc}
 use native.Mathlib.Omega.{arith}
-use borrow.Author.Tests.{eq-eqb, ne-eqb, eqb-true, eqb-false, lt-ltb, le-ltb}
+use borrow.Author.Tests.{eq-eqb, ne-eqb, lt-ltb, le-ltb}
 use lib.ListN.{length, getD}
-use lib.Dec.{eqb}
 use lib.Pow.{high}
 use lib.Count.{leadingZeros, leading-top, trailingZeros}
-use Rattle.bits.specs.Rule.{orElse, bitAt, valueAt, firstOne, lastOne, size}
+use Rattle.bits.specs.Rule.{bitAt, valueAt, firstOne, lastOne, size}
 use Rattle.bits.specs.Step.{FirstFrom, AfterLast}
 use Rattle.bits.specs.Answer.{behind, finishFrom}
-use Rattle.bits.proofs.Value.{bit-lt, value-lt, value-zero, value-suc, value-split, value-one, value-byte, value-in-byte, pow-lt-cancel}
+use Rattle.bits.proofs.Value.{bit-lt, value-lt, value-split, value-one, value-byte, value-in-byte, pow-lt-cancel}
 use Rattle.bits.proofs.Trailing.{trailing-low, trailing-one, trailing-byte}
 
 -- ---- the first one: z zeros and a one make the number 1
@@ -36,38 +35,6 @@ pub first-is : (s : List ℕ) (p z r : ℕ) → valueAt s p (suc z) ≡ 1 → fi
 unfolding firstOne
 first-is s p z zero h = ap (firstOne s p) (add-zero (suc z)) ∙ first-here s p z h
 first-is s p z (suc r) h = ap (firstOne s p) (add-suc (suc z) r) ∙ simp (first-is s p z r h)
-
--- and back: where no one is found there is none, and a place that is found has zeros before it and a one
-
-or-none : (o : Option ℕ) (b : Bool) (x : ℕ) → orElse o (cond b (some x) none) ≡ none → (o ≡ none) × (b ≡ false)
-or-none none false x h = (refl, refl)
-or-none none true x h = absurd (let z : _≡_ {A = ℕ} 0 1 = cc in omega arith)
-or-none (some y) b x h = absurd (let z : _≡_ {A = ℕ} 0 1 = cc in omega arith)
-
-or-some : (o : Option ℕ) (b : Bool) (x q : ℕ) → orElse o (cond b (some x) none) ≡ some q → (o ≡ some q) ⊎ ((o ≡ none) × (b ≡ true) × (x ≡ q))
-or-some none false x q h = absurd (let z : _≡_ {A = ℕ} 0 1 = cc in omega arith)
-or-some none true x q h = inr (refl, refl, (cc))
-or-some (some y) b x q h = inl h
-
-pub none-first : (s : List ℕ) (p n : ℕ) → firstOne s p n ≡ none → valueAt s p n ≡ 0
-unfolding firstOne
-none-first s p zero h = value-zero s p
-none-first s p (suc n) h =
-    let c = or-none (firstOne s p n) (eqb (bitAt s (p + n)) 1) (p + n) h in
-    let ne = eqb-false (bitAt s (p + n)) 1 (c .1) in
-    value-suc s p n ∙ omega (arith, none-first s p n (c .0), bit-lt s (p + n))
-
-pub first-some : (s : List ℕ) (p n q : ℕ) → firstOne s p n ≡ some q → (z : ℕ) × (q ≡ p + z) × (z < n) × (valueAt s p (suc z) ≡ 1)
-unfolding firstOne
-first-some s p zero q h = absurd (let z : _≡_ {A = ℕ} 0 1 = cc in omega arith)
-first-some s p (suc n) q h = go (first-some s p n q) (or-some (firstOne s p n) (eqb (bitAt s (p + n)) 1) (p + n) q h)
-  where
-    go : (firstOne s p n ≡ some q → (z : ℕ) × (q ≡ p + z) × (z < n) × (valueAt s p (suc z) ≡ 1))
-        → (firstOne s p n ≡ some q) ⊎ ((firstOne s p n ≡ none) × (eqb (bitAt s (p + n)) 1 ≡ true) × (p + n ≡ q))
-        → (z : ℕ) × (q ≡ p + z) × (z < suc n) × (valueAt s p (suc z) ≡ 1)
-    go ih (inl e) = let t = ih e in let l = t .2 in (t .0, t .1, omega arith, t .3)
-    go ih (inr t) =
-        (n, sym (t .2), omega arith, value-suc s p n ∙ omega (arith, none-first s p n (t .0), eqb-true (bitAt s (p + n)) 1 (t .1)))
 
 -- ---- the last one: a one, and zeros after it
 
@@ -148,9 +115,9 @@ first-found s p i q b l hi e pos small h =
     found-some s p q (first-top s p i q l hi (rw e at pos) (rw e at small) (rw e at h))
 
 -- zeros from the end of byte k on, and byte k zero
-pub zeros-more : (s : List ℕ) (k : ℕ) → k < length s → getD s k 0 ≡ 0 → valueAt s (8 * (k + 1)) (size s - 8 * (k + 1)) ≡ 0
+pub after-zero-byte : (s : List ℕ) (k : ℕ) → k < length s → getD s k 0 ≡ 0 → valueAt s (8 * (k + 1)) (size s - 8 * (k + 1)) ≡ 0
     → valueAt s (8 * k) (size s - 8 * k) ≡ 0
-zeros-more s k l e h =
+after-zero-byte s k l e h =
     let n = size s - 8 * (k + 1) in
     let z : valueAt s (8 * k) 8 ≡ 0 = value-byte s k (omega arith) ∙ e in
     let place : 8 * k + 8 ≡ 8 * (k + 1) = omega arith in
@@ -158,9 +125,9 @@ zeros-more s k l e h =
     ∙ ap₂ (λ (x y : ℕ). x * 2 ^ n + y) z (ap (λ (q : ℕ). valueAt s q n) place ∙ h) ∙ omega arith
 
 -- the last one in byte k
-pub last-in : (s : List ℕ) (k e : ℕ) → k < length s → 0 < getD s k 0 → getD s k 0 < 256
+pub after-in : (s : List ℕ) (k e : ℕ) → k < length s → 0 < getD s k 0 → getD s k 0 < 256
     → valueAt s (8 * (k + 1)) (size s - 8 * (k + 1)) ≡ 0 → e + trailingZeros 32 (getD s k 0) ≡ 8 * (k + 1) → AfterLast s e
-last-in s k e l pos small h at =
+after-in s k e l pos small h at =
     let b = getD s k 0 in
     let t = trailingZeros 32 b in
     let t8 : t < 8 = trailing-byte b pos small in
@@ -178,8 +145,8 @@ last-in s k e l pos small h at =
       one = λ _. ap (bitAt s) one-at ∙ sym (value-one s (8 * k + (7 - t))) ∙ value-in-byte s k (7 - t) 1 t (omega arith) ∙ trailing-one 32 b pos (omega arith);
     }
 
-pub last-nowhere : (s : List ℕ) → valueAt s 0 (size s - 0) ≡ 0 → AfterLast s 0
-last-nowhere s h = record { within = omega arith; zeros = h; one = λ (l : 0 < 0). absurd (omega arith) }
+pub after-none : (s : List ℕ) → valueAt s 0 (size s - 0) ≡ 0 → AfterLast s 0
+after-none s h = record { within = omega arith; zeros = h; one = λ (l : 0 < 0). absurd (omega arith) }
 
 -- the last one at or after p, from the place after the last one of all
 pub last-before : (s : List ℕ) (p e : ℕ) → AfterLast s e → e ≤ p → p ≤ size s → lastOne s p (size s - p) ≡ none

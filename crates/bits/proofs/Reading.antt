@@ -14,13 +14,14 @@ use mathlib.Core.Logic.{dite}
 use native.Mathlib.Decide.{decLt}
 use Rattle.bits.proofs.Signs.{unsigned-signed, signed-unsigned, in-range, has-code}
 use lib.Pow.{pow-pos, pow-mono}
+use Rattle.desk.proofs.Choice.{cond-by}
 use Rattle.bits.specs.Rule.{size, valueAt, firstOne, bitsOf, prefixOf, ueCode, Stands, URange, UeRange, signedOf, unsignedOf, seCode, SeRange}
-use Rattle.bits.specs.Answer.{Ans, got, no, entryAt, ueWidth, readBits, readUe, ueFrom, asSigned, readSe, asBool, readBit}
-use Rattle.bits.specs.Reading.{Entered, bitCode, AnyBit, Took, ReadsCodes, WhyBits, bitsEntry, bitsWide, bitsShort, OneAfter, WhyUe, ueEntry, ueNone, ueMany, ueShort}
-use Rattle.bits.proofs.Entry.{entered, enters, entry-why}
-use Rattle.bits.proofs.Taking.{cond-all, unless-all}
+use Rattle.bits.specs.Answer.{Ans, got, no, entryAt, ueWidth, readBits, readUe, ueFrom, asSigned, readSe, asBool, readBit, skipped}
+use Rattle.bits.specs.Reading.{Entered, bitCode, AnyBit, Took, ReadsCodes, WhyBits, bitsEntry, bitsWide, bitsShort, OneAfter, WhyUe, ueEntry, ueNone, ueMany, ueShort, Skipped, WhySkip, skipEntry, skipShort}
+use Rattle.bits.proofs.Entry.{entered, enters, entry-why, unless-by}
 use Rattle.bits.proofs.Value.{value-lt, value-split}
-use Rattle.bits.proofs.Ones.{first-is, none-first, first-some, top-one}
+use Rattle.bits.proofs.Ones.{first-is, top-one}
+use Rattle.bits.proofs.Found.{none-first, first-some}
 use Rattle.bits.proofs.Top.{top-is, prefix}
 use Rattle.bits.proofs.Codes.{length-bits-of, value-stands, stands-value, ue-bits, length-ue, ue-below}
 
@@ -33,10 +34,10 @@ BitsMean s p n (no k) = WhyBits s p n k
 bits-mean : (s : List ℕ) (p n : ℕ) → BitsMean s p n (readBits s p n)
 unfolding readBits
 bits-mean s p n =
-    unless-all (BitsMean s p n) no (entryAt s p) _ (λ k e. bitsEntry (entry-why s p k e))
+    unless-by (BitsMean s p n) no (entryAt s p) _ (λ k e. bitsEntry (entry-why s p k e))
     (λ e. let g = entered s p e in
-    cond-all (BitsMean s p n) (ltb 32 n) _ _ (λ w. bitsWide g (ltb-true 32 n w))
-    (λ w. cond-all (BitsMean s p n) (ltb (size s) (p + n)) _ _ (λ f. bitsShort g (ltb-false 32 n w) (ltb-true (size s) (p + n) f))
+    cond-by (BitsMean s p n) (ltb 32 n) _ _ (λ w. bitsWide g (ltb-true 32 n w))
+    (λ w. cond-by (BitsMean s p n) (ltb (size s) (p + n)) _ _ (λ f. bitsShort g (ltb-false 32 n w) (ltb-true (size s) (p + n) f))
     (λ f. let long = length-bits-of n (valueAt s p n) in (
       ltb-false 32 n w,
       record {
@@ -102,8 +103,8 @@ ue-from s p g (some q) e =
     let zq : q - p ≡ z = omega (arith, f .1) in
     let w = g .within in
     let after : OneAfter s p z = record { within = omega (arith, f .2); one = f .3 } in
-    cond-all (UeMean s p) (ltb 31 (q - p)) _ _ (λ h. ueMany z g after (omega (arith, ltb-true 31 (q - p) h)))
-    (λ h. cond-all (UeMean s p) (ltb (size s) (q + 1 + (q - p))) _ _
+    cond-by (UeMean s p) (ltb 31 (q - p)) _ _ (λ h. ueMany z g after (omega (arith, ltb-true 31 (q - p) h)))
+    (λ h. cond-by (UeMean s p) (ltb (size s) (q + 1 + (q - p))) _ _
     (λ b. ueShort z g after (omega (arith, ltb-false 31 (q - p) h)) (omega (arith, f .1, ltb-true (size s) (q + 1 + (q - p)) b)))
     (λ b. subst (λ (k : ℕ). UeMean s p (got (2 ^ (k - p) - 1 + valueAt s (k + 1) (k - p)) (k + 1 + (k - p)))) (sym (f .1))
     (subst (λ (k : ℕ). UeMean s p (got (2 ^ k - 1 + valueAt s (p + z + 1) k) (p + z + 1 + k))) (sym zq ∙ ap (λ (x : ℕ). x - p) (f .1))
@@ -112,7 +113,7 @@ ue-from s p g (some q) e =
 ue-mean : (s : List ℕ) (p : ℕ) → UeMean s p (readUe s p)
 unfolding readUe
 ue-mean s p =
-    unless-all (UeMean s p) no (entryAt s p) _ (λ k e. ueEntry (entry-why s p k e)) (λ e. ue-from s p (entered s p e) (firstOne s p (size s - p)) refl)
+    unless-by (UeMean s p) no (entryAt s p) _ (λ k e. ueEntry (entry-why s p k e)) (λ e. ue-from s p (entered s p e) (firstOne s p (size s - p)) refl)
 
 -- why ue(v) is refused
 pub ue-refused : (s : List ℕ) (p k : ℕ) → readUe s p ≡ no k → WhyUe s p k
@@ -218,3 +219,27 @@ bit-refused s p k e = go (readBits s p 1) refl e
     go : (a : Ans ℕ) → readBits s p 1 ≡ a → asBool a ≡ no k → WhyBits s p 1 k
     go (got v r) f h = absurd (let x : _≡_ {A = ℕ} 0 1 = cc in omega arith)
     go (no n) f h = let nk : n ≡ k = cc in subst (WhyBits s p 1) nk (bits-refused s p 1 n f)
+
+-- ---- a skip
+
+abbrev SkipMeans : List ℕ → ℕ → ℕ → Ans Unit → Type 0
+SkipMeans s p n (got v q) = Skipped s p n q
+SkipMeans s p n (no k) = WhySkip s p n k
+
+skip-means : (s : List ℕ) (p n : ℕ) → SkipMeans s p n (skipped s p n)
+unfolding skipped
+skip-means s p n =
+    unless-by (SkipMeans s p n) no (entryAt s p) _ (λ k e. skipEntry (entry-why s p k e))
+    (λ e. let g = entered s p e in
+    cond-by (SkipMeans s p n) (ltb (size s) (p + n)) _ _ (λ t. skipShort g (ltb-true (size s) (p + n) t))
+    (λ f. record { entered = g; next = refl; within = ltb-false (size s) (p + n) f }))
+
+pub skip-took : (s : List ℕ) (p n : ℕ) (v : Unit) (q : ℕ) → skipped s p n ≡ got v q → Skipped s p n q
+skip-took s p n v q e = subst (SkipMeans s p n) e (skip-means s p n)
+
+pub skip-refused : (s : List ℕ) (p n k : ℕ) → skipped s p n ≡ no k → WhySkip s p n k
+skip-refused s p n k e = subst (SkipMeans s p n) e (skip-means s p n)
+
+pub skip-give : (s : List ℕ) (p n : ℕ) (v : Unit) → Entered s p → p + n ≤ size s → skipped s p n ≡ got v (p + n)
+unfolding skipped
+skip-give s p n v g h = simp (enters s p g, le-ltb (size s) (p + n) h)

@@ -9,8 +9,8 @@ use Prim.Native.Nat.{ℕ, suc, _+_, _-_, _≤_, _<_}
 use native.Mathlib.Omega.{arith}
 use borrow.Author.Tests.{lt-ltb, le-ltb, ltb-false}
 use Rattle.bits.specs.Rule.{size, firstOne}
-use Rattle.bits.specs.Answer.{Ans, no, unless, entryAt, pastEnd, readBits, readBit, readUe, readSe}
-use Rattle.bits.specs.Reading.{Entered, WhyEntry, long, past, WhyBits, bitsEntry, bitsWide, bitsShort, OneAfter, WhyUe, ueEntry, ueNone, ueMany, ueShort}
+use Rattle.bits.specs.Answer.{Ans, no, unless, entryAt, pastEnd, readBits, readBit, readUe, readSe, skipped}
+use Rattle.bits.specs.Reading.{Entered, WhyEntry, long, past, WhyBits, bitsEntry, bitsWide, bitsShort, OneAfter, WhyUe, ueEntry, ueNone, ueMany, ueShort, WhySkip, skipEntry, skipShort}
 use Rattle.bits.proofs.Entry.{enters, why-entry}
 use Rattle.bits.proofs.Ones.{first-none, first-is}
 use Rattle.bits.proofs.Reading.{bits-refused, bit-refused, ue-refused, se-refused}
@@ -50,6 +50,11 @@ ue-refuse {s} {p} (ueMany z g o h) =
 ue-refuse {s} {p} (ueShort z g o h l) =
     let e : p + z - p ≡ z = omega arith in
     simp (enters s p g, first-at s p z o, e, le-ltb 31 z h, lt-ltb (size s) (p + z + 1 + z) (omega arith))
+
+pub skip-refuse : {s : List ℕ} {p n k : ℕ} → WhySkip s p n k → skipped s p n ≡ no k
+unfolding skipped
+skip-refuse (skipEntry w) = entry-no _ w
+skip-refuse {s} {p} {n} (skipShort g h) = simp (enters s p g, lt-ltb (size s) (p + n) h)
 
 -- ---- behind the entry checks
 

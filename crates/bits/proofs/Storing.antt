@@ -11,7 +11,8 @@ use lib.Pow.{pow-add, mod-pow-add, mod-mod-pow, field, high, low, shr-shr, shl-e
 use lib.Arith.{digits-lt}
 use lib.Bits.{bitAnd}
 use Rattle.desk.specs.Numbers.{most}
-use Rattle.bits.specs.Step.{bytesOf, filled, stored, more, wrote, Good, GoodAfter}
+use Rattle.bits.specs.Step.{bytesOf, filled, whole, writer, stored, more, wrote, Good, GoodAfter}
+use Rattle.bits.specs.declared.BitWriter.{BitWriter}
 use Rattle.bits.proofs.Value.{masked}
 
 -- ---- the bytes of a number
@@ -101,20 +102,27 @@ pub joined-fits : (p c n v : ℕ) → p < 2 ^ c → c ≤ 7 → n ≤ 32 → v <
 joined-fits p c n v h l k b =
     rw (shifted p c n h l k) (lt-of-lt-of-le (joined-lt p c n v h b) (pow-mono {i = c + n} {j = 39} (omega arith)))
 
-pub put-is : (o o′ : List ℕ) (w p c n v : ℕ) → p < 2 ^ c → c ≤ 7 → n ≤ 32
-    → o′ ≡ filled o w ((c + n) / 8) (((p * 2 ^ n) % 2 ^ 64 + v) / 2 ^ ((c + n) % 8))
-    → wrote (w + (c + n) / 8) (bitAnd ((p * 2 ^ n) % 2 ^ 64 + v) ((1 * 2 ^ ((c + n) % 8)) % 2 ^ 64 - 1)) ((c + n) % 8) o′ ≡ stored o w p c n v
+pub put-is : (o o′ : List ℕ) (st : BitWriter) (n v : ℕ) → st .pending < 2 ^ st .count → st .count ≤ 7 → n ≤ 32 →
+    let x = (st .pending * 2 ^ n) % 2 ^ 64 + v in
+    let r = (st .count + n) % 8 in
+    o′ ≡ filled o (st .written .0) ((st .count + n) / 8) (x / 2 ^ r)
+    → wrote (writer (whole st n) (bitAnd x ((1 * 2 ^ r) % 2 ^ 64 - 1)) r) o′ ≡ stored o st n v
 unfolding stored
-put-is o o′ w p c n v h l k e =
+put-is o o′ st n v h l k e =
+    let p = st .pending in
+    let c = st .count in
     let s = shifted p c n h l k in
     rw (e, masked 64 ((p * 2 ^ n) % 2 ^ 64 + v) ((c + n) % 8) (omega arith), s)
 
 -- ---- two writes are one
 
-pub stored-more : (o : List ℕ) (w p c n a m b : ℕ) → b < 2 ^ m → w + (c + n) / 8 ≤ length o
-    → more (stored o w p c n a) m b ≡ stored o w p c (n + m) (a * 2 ^ m + b)
+pub stored-more : (o : List ℕ) (st : BitWriter) (n a m b : ℕ) → b < 2 ^ m → whole st n ≤ length o
+    → more (stored o st n a) m b ≡ stored o st (n + m) (a * 2 ^ m + b)
 unfolding stored
-stored-more o w p c n a m b h l =
+stored-more o st n a m b h l =
+    let w = st .written .0 in
+    let p = st .pending in
+    let c = st .count in
     let j = (c + n) / 8 in
     let r₁ = (c + n) % 8 in
     let x₁ = p * 2 ^ n + a in
@@ -139,9 +147,13 @@ stored-more o w p c n a m b h l =
     let pend : x₂ % 2 ^ r ≡ x % 2 ^ r = ap (λ (u : ℕ). u % 2 ^ r) cut ∙ mod-mod-pow x (8 * k) r in
     rw (y₂, pend, wj, jk, rr, ← whole)
 
-pub stored-good : (o : List ℕ) (w p c n v : ℕ) → length o ≤ most → w + (c + n) / 8 ≤ length o → GoodAfter (length o) (8 * w + (c + n)) (stored o w p c n v)
+pub stored-good : (o : List ℕ) (st : BitWriter) (n v : ℕ) → length o ≤ most → whole st n ≤ length o
+    → GoodAfter (length o) (8 * st .written .0 + (st .count + n)) (stored o st n v)
 unfolding stored
-stored-good o w p c n v small l =
+stored-good o st n v small l =
+    let w = st .written .0 in
+    let p = st .pending in
+    let c = st .count in
     let k = (c + n) / 8 in
     let r = (c + n) % 8 in
     let x = p * 2 ^ n + v in
@@ -149,9 +161,12 @@ stored-good o w p c n v small l =
     (long, record { small = small; within = l; few = omega arith; below = mod-lt x (pow-pos r) }, omega arith)
 
 -- no bits at all
-pub stored-none : (o : List ℕ) (w p c : ℕ) → Good (length o) w p c → stored o w p c 0 0 ≡ wrote w p c o
+pub stored-none : (o : List ℕ) (st : BitWriter) → Good (length o) st → stored o st 0 0 ≡ wrote st o
 unfolding stored bytesOf
-stored-none o w p c g =
+stored-none o st g =
+    let w = st .written .0 in
+    let p = st .pending in
+    let c = st .count in
     let few = g .few in
     let k : (c + 0) / 8 ≡ 0 = omega arith in
     let r : (c + 0) % 8 ≡ c = omega arith in

@@ -1,4 +1,4 @@
--- Each contract leaves one outcome. (Where a contract is `r ≡ ..`, on a number, a bool or a new reader or writer, it says so itself.) Assumes nothing.
+-- Each contract leaves one outcome. (Where a contract is `r ≡ ..`, or `r .0 ≡ ..` of a place, it says so itself.) Assumes nothing.
 use mathlib.Core.Path.{_≡_, refl, sym, ap, _∙_}
 use mathlib.Core.List.{List}
 use mathlib.Core.Bool.{Bool, true, false}
@@ -6,7 +6,7 @@ use mathlib.Core.Option.{Option, none, some}
 use Prim.Native.Nat.{ℕ}
 use lib.IntN.{ℤ}
 use Rattle.bits.specs.Step.{Wrote, wrote, kept}
-use Rattle.bits.specs.Answer.{Ans, got, no, Told, told, not, answer, bitAnswer, signedAnswer, movedAnswer, moreAnswer, alignedAnswer, mappedAnswer, outcome, Same, BitSame, SignedSame, MovedSame, PutSame, Reads, ReadsBit, ReadsSigned, Moves, Writes}
+use Rattle.bits.specs.Answer.{Ans, got, no, Told, told, denied, answer, bitAnswer, signedAnswer, movedAnswer, moreAnswer, alignedAnswer, mappedAnswer, outcome, Same, BitSame, SignedSame, MovedSame, PutSame, Reads, ReadsBit, ReadsSigned, Moves, Writes}
 use Rattle.bits.specs.declared.BitReader.{BitReader}
 use Rattle.bits.specs.declared.Bits.{Bits}
 use Rattle.bits.specs.declared.Bits.the-variants.{Value, Refused}
@@ -91,7 +91,7 @@ skip-one {from} {x} {y} p q = one movedAnswer (moved-back from) (p .answers) (q 
 abbrev more-back : Told Bool → More
 more-back (told true) = Yes
 more-back (told false) = No
-more-back (not n) = YRefused n
+more-back (denied n) = YRefused n
 
 more-had : (r : More) → more-back (moreAnswer r) ≡ r
 more-had Yes = refl
@@ -105,7 +105,7 @@ has-more-one {x} {y} p q = one moreAnswer more-back p q (more-had x) (more-had y
 
 abbrev mapped-back : Told ℤ → Mapped
 mapped-back (told z) = Is z
-mapped-back (not n) = NRefused n
+mapped-back (denied n) = NRefused n
 
 mapped-had : (r : Mapped) → mapped-back (mappedAnswer r) ≡ r
 mapped-had (Is z) = refl
@@ -130,7 +130,7 @@ byte-one {x} {y} p q = one alignedAnswer aligned-back p q (aligned-had x) (align
 -- ---- every writing call: the answer, and the room at exit
 
 abbrev put-back : BitWriter → Wrote → Put
-put-back from (wrote w p c o) = Done (record { written = record { 0 = w }; pending = p; count = c })
+put-back from (wrote st o) = Done st
 put-back from (kept n o) = PRefused n from
 
 put-had : (from : BitWriter) (r : Put) (o : List ℕ) → PutSame from r → put-back from (outcome r o) ≡ r
@@ -138,7 +138,7 @@ put-had from (Done st) o s = refl
 put-had from (PRefused n st) o s = ap (PRefused n) (sym s)
 
 abbrev room-of : Wrote → List ℕ
-room-of (wrote w p c o) = o
+room-of (wrote st o) = o
 room-of (kept n o) = o
 
 room-had : (r : Put) (o : List ℕ) → room-of (outcome r o) ≡ o

@@ -34,18 +34,15 @@ abbrev AllHave : List Field → Type 0
 AllHave [] = Unit
 AllHave (f ∷ fs) = HasCode f × AllHave fs
 
-abbrev contentOf : List ℕ → BitWriter → List ℕ
-contentOf o st = content o (st .written .0) (st .pending) (st .count)
-
 written-codes : {o o′ : List ℕ} {st st′ : BitWriter} {fs : List Field} → Written o st fs o′ st′
-    → AllHave fs × (contentOf o′ st′ ≡ contentOf o st ++ codesOf fs)
-written-codes {o} {st} nothing = (tt, sym (append-nil (contentOf o st)))
+    → AllHave fs × (content o′ st′ ≡ content o st ++ codesOf fs)
+written-codes {o} {st} nothing = (tt, sym (append-nil (content o st)))
 written-codes {o} {st} (next {f} {fs} h t) =
-    let m = subst (WriteMeans o (st .written .0) (st .pending) (st .count) (codeOf f) (HasCode f) (without f)) (sym (h .answers))
-    (field-means o (st .written .0) (st .pending) (st .count) f) in
+    let m = subst (WriteMeans o st (codeOf f) (HasCode f) (without f)) (sym (h .answers))
+    (field-means o st f) in
     let r = written-codes t in (
       (m .1, r .0),
-      r .1 ∙ ap (λ (l : List ℕ). l ++ codesOf fs) (m .2 .grown) ∙ append-assoc (contentOf o st) (codeOf f) (codesOf fs),
+      r .1 ∙ ap (λ (l : List ℕ). l ++ codesOf fs) (m .2 .grown) ∙ append-assoc (content o st) (codeOf f) (codesOf fs),
     )
 
 -- ---- and reads back
@@ -99,35 +96,37 @@ finish-trailing s p c g few t e =
 
 -- ---- all together
 
-content-new : (o : List ℕ) → contentOf o newWriter ≡ []
+content-new : (o : List ℕ) → content o newWriter ≡ []
 content-new o = ap₂ (λ (a b : List ℕ). a ++ b) (bits-none 0 ∙ no-bits 0) (no-bits 0)
 
 -- no bits are pending behind trailing bits, so all that was written is in the bytes
-closed : {o o′ : List ℕ} {w p c w′ p′ c′ : ℕ} → Good (length o) w p c → Appends o w p c (trailingBits c) o′ w′ p′ c′
-    → bits (take w′ o′) ≡ content o w p c ++ trailingBits c
-closed {o} {o′} {w} {p} {c} {w′} {p′} {c′} g a =
+closed : {o o′ : List ℕ} {st st′ : BitWriter} → Good (length o) st → Appends o st (trailingBits (st .count)) o′ st′
+    → bits (take (st′ .written .0) o′) ≡ content o st ++ trailingBits (st .count)
+closed {o} {o′} {st} {st′} g a =
+    let c = st .count in
+    let w′ = st′ .written .0 in
     let few = g .few in
     let few′ = a .good .few in
     let long = a .long in
     let within = a .good .within in
-    let none : c′ ≡ 0 = omega (
+    let none : st′ .count ≡ 0 = omega (
       arith,
       ap length (a .grown),
-      length-content o w p c (g .within),
-      length-content o′ w′ p′ c′ (omega arith),
-      length-append (content o w p c) (trailingBits c),
+      length-content o st (g .within),
+      length-content o′ st′ (omega arith),
+      length-append (content o st) (trailingBits c),
       length-replicate {A = ℕ} (7 - c) 0,
     ) in
-    sym (append-nil (bits (take w′ o′))) ∙ ap (λ (b : List ℕ). bits (take w′ o′) ++ b) (sym (ap (λ (k : ℕ). bitsOf k p′) none ∙ no-bits p′)) ∙ a .grown
+    sym (append-nil (bits (take w′ o′))) ∙ ap (λ (b : List ℕ). bits (take w′ o′) ++ b) (sym (ap (λ (k : ℕ). bitsOf k (st′ .pending)) none ∙ no-bits (st′ .pending))) ∙ a .grown
 
 -- what was written into a room from a new writer, with trailing bits behind it, reads back from place 0, and ends where the trailing bits are
 pub write-read : {o o₁ o₂ : List ℕ} {st₁ st₂ : BitWriter} {fs : List Field} → Written o newWriter fs o₁ st₁
-    → Writes st₁ (Done st₂) o₂ (writeTrailing o₁ (st₁ .written .0) (st₁ .pending) (st₁ .count))
+    → Writes st₁ (Done st₂) o₂ (writeTrailing o₁ st₁)
     → (p : ℕ) × ReadBack (take (st₂ .written .0) o₂) 0 fs p × (finishRbsp (take (st₂ .written .0) o₂) p ≡ 0)
 write-read {o} {o₁} {o₂} {st₁} {st₂} {fs} h t =
     let r = written-codes h in
-    let m = subst (WriteMeans o₁ (st₁ .written .0) (st₁ .pending) (st₁ .count) (trailingBits (st₁ .count)) Unit 0) (sym (t .answers))
-    (trailing-means o₁ (st₁ .written .0) (st₁ .pending) (st₁ .count)) in
+    let m = subst (WriteMeans o₁ st₁ (trailingBits (st₁ .count)) Unit 0) (sym (t .answers))
+    (trailing-means o₁ st₁) in
     let c = st₁ .count in
     let s = take (st₂ .written .0) o₂ in
     let codes = codesOf fs in

@@ -9,7 +9,7 @@ use lib.Dec.{ltb, leb, eqb}
 use lib.IntN.{ℤ, natAbs}
 use Rattle.desk.specs.Numbers.{done, badWidth, bitsRunOut, expGolombTooLarge, remainingData, noCode, noRoom, entryOf}
 use Rattle.bits.specs.Rule.{size, valueAt, firstOne, lastOne, signedOf, unsignedOf, prefixOf}
-use Rattle.bits.specs.Step.{Wrote, wrote, kept, stored}
+use Rattle.bits.specs.Step.{Wrote, wrote, kept, writer, whole, stored}
 use Rattle.bits.specs.declared.BitReader.{BitReader}
 use Rattle.bits.specs.declared.Bits.{Bits}
 use Rattle.bits.specs.declared.Bits.the-variants.{Value, Refused}
@@ -37,7 +37,7 @@ pub data Ans (A : Type 0) : Type 0 where
 -- what a question gives: an answer, or a number of the table
 pub data Told (A : Type 0) : Type 0 where
   told : A → Told A
-  not : ℕ → Told A
+  denied : ℕ → Told A
 
 -- the next field is read from where the one before it stopped, or the whole read is refused
 abbrev pub andThen : {A B : Type 0} → Ans A → (A → ℕ → Ans B) → Ans B
@@ -106,7 +106,7 @@ behind p none = false
 behind p (some l) = ltb p l
 
 unfoldable pub hasMore : List ℕ → ℕ → Told Bool
-hasMore s p = unless not (entryAt s p) (told (behind p (lastOne s p (size s - p))))
+hasMore s p = unless denied (entryAt s p) (told (behind p (lastOne s p (size s - p))))
 
 -- 0 where L is p, 6 where it is behind p, and another number where there is no L
 abbrev pub finishFrom : ℕ → ℕ → Option ℕ → ℕ
@@ -140,7 +140,7 @@ movedAnswer (MRefused n r) = no n
 abbrev pub moreAnswer : More → Told Bool
 moreAnswer Yes = told true
 moreAnswer No = told false
-moreAnswer (YRefused n) = not n
+moreAnswer (YRefused n) = denied n
 
 -- an answer's number: 0, or that of the refusal
 abbrev pub number : {A : Type 0} → Ans A → ℕ
@@ -194,69 +194,65 @@ alignedAnswer Within = none
 
 -- 2 ^ 32 - 1, the last of the u32, has no code
 abbrev pub mapped : ℕ → Told ℤ
-mapped k = cond (leb 4294967295 k) (not noCode) (told (signedOf k))
+mapped k = cond (leb 4294967295 k) (denied noCode) (told (signedOf k))
 
 abbrev pub mappedAnswer : Mapped → Told ℤ
 mappedAnswer (Is z) = told z
-mappedAnswer (NRefused n) = not n
+mappedAnswer (NRefused n) = denied n
 
 -- ---- writing
 
 -- nothing written, nothing pending
 abbrev pub newWriter : BitWriter
-newWriter = record { written = record { 0 = 0 }; pending = 0; count = 0 }
+newWriter = writer 0 0 0
 
 -- bytes written past the room; a pending count over 7; a pending value not below 2 ^ count
-abbrev pub badWriter : ℕ → ℕ → ℕ → ℕ → Bool
-badWriter len w p c = ltb len w || (ltb 7 c || leb (2 ^ c) p)
+abbrev pub badWriter : ℕ → BitWriter → Bool
+badWriter len st = ltb len (st .written .0) || (ltb 7 (st .count) || leb (2 ^ st .count) (st .pending))
 
 -- entry checks 1 and 2 of a writer in a room of len bytes
-abbrev pub entryOn : ℕ → ℕ → ℕ → ℕ → ℕ
-entryOn len w p c = entryOf (len ∷ 0 ∷ 0 ∷ []) (badWriter len w p c)
+abbrev pub entryOn : ℕ → BitWriter → ℕ
+entryOn len st = entryOf (len ∷ 0 ∷ 0 ∷ []) (badWriter len st)
 
 -- n bits of v, where the whole bytes have room
-abbrev pub roomed : List ℕ → ℕ → ℕ → ℕ → ℕ → ℕ → Wrote
-roomed o w p c n v = cond (ltb (length o) (w + (c + n) / 8)) (kept noRoom o) (stored o w p c n v)
+abbrev pub roomed : List ℕ → BitWriter → ℕ → ℕ → Wrote
+roomed o st n v = cond (ltb (length o) (whole st n)) (kept noRoom o) (stored o st n v)
 
 -- u(n) of v
-unfoldable pub writeBits : List ℕ → ℕ → ℕ → ℕ → ℕ → ℕ → Wrote
-writeBits o w p c n v =
-    unless (λ k. kept k o) (entryOn (length o) w p c)
-    (cond (ltb 32 n) (kept badWidth o) (cond (leb (2 ^ n) v) (kept badWidth o) (roomed o w p c n v)))
+unfoldable pub writeBits : List ℕ → BitWriter → ℕ → ℕ → Wrote
+writeBits o st n v =
+    unless (λ k. kept k o) (entryOn (length o) st)
+    (cond (ltb 32 n) (kept badWidth o) (cond (leb (2 ^ n) v) (kept badWidth o) (roomed o st n v)))
 
 abbrev pub bitNumber : Bool → ℕ
 bitNumber b = cond b 1 0
 
-unfoldable pub writeBit : List ℕ → ℕ → ℕ → ℕ → Bool → Wrote
-writeBit o w p c b = writeBits o w p c 1 (bitNumber b)
+unfoldable pub writeBit : List ℕ → BitWriter → Bool → Wrote
+writeBit o st b = writeBits o st 1 (bitNumber b)
 
 -- ue(v)'s code: M zeros, a one and M bits are v + 1 as a number of 2 M + 1 bits
 abbrev pub ueWidth : ℕ → ℕ
 ueWidth v = prefixOf v + (prefixOf v + 1)
 
 -- 9 for a value that no code has: among the u32, 2 ^ 32 - 1
-unfoldable pub writeUe : List ℕ → ℕ → ℕ → ℕ → ℕ → Wrote
-writeUe o w p c v =
-    unless (λ k. kept k o) (entryOn (length o) w p c) (cond (leb 4294967295 v) (kept noCode o) (roomed o w p c (ueWidth v) (v + 1)))
+unfoldable pub writeUe : List ℕ → BitWriter → ℕ → Wrote
+writeUe o st v =
+    unless (λ k. kept k o) (entryOn (length o) st) (cond (leb 4294967295 v) (kept noCode o) (roomed o st (ueWidth v) (v + 1)))
 
 -- 9 for a value that no code has: among the i32, -2 ^ 31
-unfoldable pub writeSe : List ℕ → ℕ → ℕ → ℕ → ℤ → Wrote
-writeSe o w p c z =
-    unless (λ k. kept k o) (entryOn (length o) w p c)
-    (cond (leb 2147483648 (natAbs z)) (kept noCode o) (roomed o w p c (ueWidth (unsignedOf z)) (unsignedOf z + 1)))
+unfoldable pub writeSe : List ℕ → BitWriter → ℤ → Wrote
+writeSe o st z =
+    unless (λ k. kept k o) (entryOn (length o) st)
+    (cond (leb 2147483648 (natAbs z)) (kept noCode o) (roomed o st (ueWidth (unsignedOf z)) (unsignedOf z + 1)))
 
--- trailing bits: a one and 7 - c zeros, which fill up the byte
-unfoldable pub writeTrailing : List ℕ → ℕ → ℕ → ℕ → Wrote
-writeTrailing o w p c = unless (λ k. kept k o) (entryOn (length o) w p c) (roomed o w p c (8 - c) (2 ^ (7 - c)))
+-- trailing bits: a one, and zeros that fill up the byte
+unfoldable pub writeTrailing : List ℕ → BitWriter → Wrote
+writeTrailing o st = unless (λ k. kept k o) (entryOn (length o) st) (roomed o st (8 - st .count) (2 ^ (7 - st .count)))
 
 -- ---- the contract of writing
 
--- a writer and its room
-abbrev pub after : BitWriter → List ℕ → Wrote
-after st o = wrote (st .written .0) (st .pending) (st .count) o
-
 abbrev pub outcome : Put → List ℕ → Wrote
-outcome (Done st) o = after st o
+outcome (Done st) o = wrote st o
 outcome (PRefused n st) o = kept n o
 
 -- a refusal gives the writer back as it came

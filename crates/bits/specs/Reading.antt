@@ -5,7 +5,7 @@ use mathlib.Core.Path.{_≡_}
 use mathlib.Core.List.{List, [], _∷_}
 use mathlib.Core.Bool.{Bool}
 use lib.ListN.{length, take, drop}
-use Rattle.desk.specs.Numbers.{most}
+use Rattle.desk.specs.Numbers.{most, tooLong, badState, badWidth, bitsRunOut, expGolombTooLarge}
 use Rattle.bits.specs.Rule.{valueAt}
 pub use Rattle.bits.specs.Rule.{size, bits, bitsOf, URange, ueCode, UeRange, seCode, SeRange, Stands}
 pub use Rattle.bits.specs.Answer.{Ans, got, no, number, andThen, answer, bitAnswer, signedAnswer, movedAnswer, Same, BitSame, SignedSame, MovedSame, Reads, ReadsBit, ReadsSigned, Moves, bitNumber}
@@ -18,8 +18,8 @@ pub record Entered (s : List ℕ) (p : ℕ) : Type 0 where
 
 -- and why they answer a number
 pub data WhyEntry (s : List ℕ) (p : ℕ) : ℕ → Type 0 where
-  long : most < length s → WhyEntry s p 1
-  past : length s ≤ most → size s < p → WhyEntry s p 2
+  long : most < length s → WhyEntry s p tooLong
+  past : length s ≤ most → size s < p → WhyEntry s p badState
 
 -- ---- what was read is a code that stands there
 
@@ -41,12 +41,18 @@ pub record ReadsCodes {A : Type 0} (code : A → List ℕ) (Ok : A → Type 0) (
   pub took : (s : List ℕ) (p : ℕ) (a : A) (q : ℕ) → read s p ≡ got a q → Took code Ok s p a q
   pub gives : (s : List ℕ) (p : ℕ) (a : A) → Entered s p → Ok a → Stands s p (code a) → read s p ≡ got a (p + length (code a))
 
+-- n bits were skipped
+pub record Skipped (s : List ℕ) (p n q : ℕ) : Type 0 where
+  pub entered : Entered s p
+  pub next : q ≡ p + n
+  pub within : q ≤ size s
+
 -- ---- why a read was refused
 
 pub data WhyBits (s : List ℕ) (p n : ℕ) : ℕ → Type 0 where
   bitsEntry : {k : ℕ} → WhyEntry s p k → WhyBits s p n k
-  bitsWide : Entered s p → 32 < n → WhyBits s p n 3
-  bitsShort : Entered s p → n ≤ 32 → size s < p + n → WhyBits s p n 4
+  bitsWide : Entered s p → 32 < n → WhyBits s p n badWidth
+  bitsShort : Entered s p → n ≤ 32 → size s < p + n → WhyBits s p n bitsRunOut
 
 -- z zeros from p on, and a one
 pub record OneAfter (s : List ℕ) (p z : ℕ) : Type 0 where
@@ -55,9 +61,13 @@ pub record OneAfter (s : List ℕ) (p z : ℕ) : Type 0 where
 
 pub data WhyUe (s : List ℕ) (p : ℕ) : ℕ → Type 0 where
   ueEntry : {k : ℕ} → WhyEntry s p k → WhyUe s p k
-  ueNone : Entered s p → valueAt s p (size s - p) ≡ 0 → WhyUe s p 4
-  ueMany : (z : ℕ) → Entered s p → OneAfter s p z → 31 < z → WhyUe s p 5
-  ueShort : (z : ℕ) → Entered s p → OneAfter s p z → z ≤ 31 → size s < p + (z + 1 + z) → WhyUe s p 4
+  ueNone : Entered s p → valueAt s p (size s - p) ≡ 0 → WhyUe s p bitsRunOut
+  ueMany : (z : ℕ) → Entered s p → OneAfter s p z → 31 < z → WhyUe s p expGolombTooLarge
+  ueShort : (z : ℕ) → Entered s p → OneAfter s p z → z ≤ 31 → size s < p + (z + 1 + z) → WhyUe s p bitsRunOut
+
+pub data WhySkip (s : List ℕ) (p n : ℕ) : ℕ → Type 0 where
+  skipEntry : {k : ℕ} → WhyEntry s p k → WhySkip s p n k
+  skipShort : Entered s p → size s < p + n → WhySkip s p n bitsRunOut
 
 -- ---- a read depends on the bits read alone
 

@@ -35,6 +35,23 @@ unfoldable pub lastOne : List ℕ → ℕ → ℕ → Option ℕ
 lastOne s p zero = none
 lastOne s p (suc n) = cond (eqb (bitAt s (p + n)) 1) (some (p + n)) (lastOne s p n)
 
+-- by places: a one with no one before it, and a one with no one behind it (proofs/Found.antt: what is found is that, and that is found)
+pub record IsFirst (s : List ℕ) (p n q : ℕ) : Type 0 where
+  pub from : p ≤ q
+  pub within : q < p + n
+  pub one : bitAt s q ≡ 1
+  pub zeros : (i : ℕ) → p ≤ i → i < q → bitAt s i ≡ 0
+
+pub record IsLast (s : List ℕ) (p n q : ℕ) : Type 0 where
+  pub from : p ≤ q
+  pub within : q < p + n
+  pub one : bitAt s q ≡ 1
+  pub zeros : (i : ℕ) → q < i → i < p + n → bitAt s i ≡ 0
+
+-- and no one at all
+abbrev pub NoOne : List ℕ → ℕ → ℕ → Type 0
+NoOne s p n = (i : ℕ) → p ≤ i → i < p + n → bitAt s i ≡ 0
+
 -- ---- codes, as lists of bits
 
 -- u(n) of v: the n low bits of v, the highest first
@@ -68,6 +85,19 @@ prefixOf v = topOf 31 (v + 1)
 -- Rec 9.1, ue(v): M zeros, a one, and M bits, which with 2 ^ M - 1 make v
 unfoldable pub ueCode : ℕ → List ℕ
 ueCode v = replicate (prefixOf v) 0 ++ (1 ∷ bitsOf (prefixOf v) (v + 1 - 2 ^ prefixOf v))
+
+-- a list of that form, with M at most 31 (proofs/OneCode.antt: these lists are the codes)
+abbrev pub AllBits : List ℕ → Type 0
+AllBits [] = Unit
+AllBits (b ∷ l) = (b < 2) × AllBits l
+
+pub record UeForm (code : List ℕ) : Type 0 where
+  pub zeros : ℕ
+  pub few : zeros ≤ 31
+  pub rest : List ℕ
+  pub bits : AllBits rest
+  pub long : length rest ≡ zeros
+  pub is : code ≡ replicate zeros 0 ++ (1 ∷ rest)
 
 -- the values that have a code: up to 2 ^ 32 - 2
 abbrev pub UeRange : ℕ → Type 0

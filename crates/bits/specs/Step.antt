@@ -7,6 +7,7 @@ use mathlib.Core.Option.{Option, none, some}
 use lib.ListN.{length, take, drop}
 use lib.Dec.{ltb}
 use Rattle.desk.specs.Numbers.{most}
+use Rattle.bits.specs.declared.BitWriter.{BitWriter}
 use Rattle.bits.specs.Rule.{size, bitAt, valueAt, firstOne, prefixOf}
 
 -- a place below the end, or none
@@ -43,34 +44,44 @@ bytesOf (suc k) x = bytesOf k (x / 256) ++ (x % 256 ∷ [])
 abbrev pub filled : List ℕ → ℕ → ℕ → ℕ → List ℕ
 filled o w k y = take w o ++ bytesOf k y ++ drop (w + k) o
 
--- what a writer's call leaves: bytes written, pending bits as a number, their count, and the room; or a number of the table and the room as it was
+-- what a writer's call leaves: the writer and the room; or a number of the table, and the room as it was
 pub data Wrote : Type 0 where
-  wrote : ℕ → ℕ → ℕ → List ℕ → Wrote
+  wrote : BitWriter → List ℕ → Wrote
   kept : ℕ → List ℕ → Wrote
 
--- the c pending bits p, then the n bits of v: whole bytes are handed over, and what is left is pending
-unfoldable pub stored : List ℕ → ℕ → ℕ → ℕ → ℕ → ℕ → Wrote
-stored o w p c n v =
-    wrote (w + (c + n) / 8) ((p * 2 ^ n + v) % 2 ^ ((c + n) % 8)) ((c + n) % 8) (filled o w ((c + n) / 8) ((p * 2 ^ n + v) / 2 ^ ((c + n) % 8)))
+-- w bytes written, and c pending bits, which make p
+abbrev pub writer : ℕ → ℕ → ℕ → BitWriter
+writer w p c = record { written = record { 0 = w }; pending = p; count = c }
+
+-- the bytes that are whole once there are n bits more
+abbrev pub whole : BitWriter → ℕ → ℕ
+whole st n = st .written .0 + (st .count + n) / 8
+
+-- the pending bits, then the n bits of v: whole bytes are handed over, and what is left is pending
+unfoldable pub stored : List ℕ → BitWriter → ℕ → ℕ → Wrote
+stored o st n v =
+    let x = st .pending * 2 ^ n + v in
+    let r = (st .count + n) % 8 in
+    wrote (writer (whole st n) (x % 2 ^ r) r) (filled o (st .written .0) ((st .count + n) / 8) (x / 2 ^ r))
 
 -- m bits of b after what was stored
 abbrev pub more : Wrote → ℕ → ℕ → Wrote
-more (wrote w p c o) m b = stored o w p c m b
+more (wrote st o) m b = stored o st m b
 more (kept n o) m b = kept n o
 
 -- a state that passes the entry checks, in a room of len bytes
-pub record Good (len w p c : ℕ) : Type 0 where
+pub record Good (len : ℕ) (st : BitWriter) : Type 0 where
   pub small : len ≤ most
-  pub within : w ≤ len
-  pub few : c ≤ 7
-  pub below : p < 2 ^ c
+  pub within : st .written .0 ≤ len
+  pub few : st .count ≤ 7
+  pub below : st .pending < 2 ^ st .count
 
 -- and has room for n bits more
-pub record Fits (len w p c n : ℕ) : Type 0 where
-  pub good : Good len w p c
-  pub room : w + (c + n) / 8 ≤ len
+pub record Fits (len : ℕ) (st : BitWriter) (n : ℕ) : Type 0 where
+  pub good : Good len st
+  pub room : whole st n ≤ len
 
 -- what a write leaves: a room as long, a good state, and so many bits in all
 abbrev pub GoodAfter : ℕ → ℕ → Wrote → Type 0
-GoodAfter len n (wrote w p c o) = (length o ≡ len) × Good len w p c × (8 * w + c ≡ n)
+GoodAfter len n (wrote st o) = (length o ≡ len) × Good len st × (8 * st .written .0 + st .count ≡ n)
 GoodAfter len n (kept k o) = Unit

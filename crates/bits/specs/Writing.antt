@@ -1,43 +1,45 @@
--- WRITING, AND READING BACK: what the laws of proofs/Writing.antt and proofs/WriteRead.antt say.
+-- WRITING, AND READING BACK: what the laws of proofs/Writing.antt and proofs/WriteRead.antt say, with the answers' names passed on shut.
 use Prim.Native.Nat.{ℕ, _+_, _/_, _≤_, _<_}
 use mathlib.Core.Path.{_≡_}
 use mathlib.Core.List.{List, [], _∷_, _++_}
 use mathlib.Core.Bool.{Bool, true}
 use lib.ListN.{length, take, drop}
 use lib.IntN.{ℤ}
-use Rattle.desk.specs.Numbers.{most, badWidth, noCode}
+use Rattle.desk.specs.Numbers.{most, tooLong, badState, badWidth, noCode, noRoom}
 use Rattle.bits.specs.Rule.{bits, bitsOf, URange, ueCode, UeRange, seCode, SeRange}
-use Rattle.bits.specs.Step.{Good, Wrote, wrote, kept}
-use Rattle.bits.specs.Answer.{got, badWriter, writeBits, writeBit, writeUe, writeSe, Writes, readBits, readBit, readUe, readSe}
+pub use Rattle.bits.specs.Step.{Good, Wrote, wrote, kept}
+use Rattle.bits.specs.Answer.{got, readBits, readBit, readUe, readSe}
+pub use Rattle.bits.specs.Answer.{newWriter, badWriter, Writes, outcome, PutSame, finishRbsp}
+pub use Rattle.bits.specs.Answer.{writeBits, writeBit, writeUe, writeSe, writeTrailing}
 use Rattle.bits.specs.Reading.{bitCode}
 use Rattle.bits.specs.declared.BitWriter.{BitWriter}
 use Rattle.bits.specs.declared.Put.the-variants.{Done}
 
 -- the bits that a writer stands for: those of the bytes written, then the pending ones
-abbrev pub content : List ℕ → ℕ → ℕ → ℕ → List ℕ
-content o w p c = bits (take w o) ++ bitsOf c p
+abbrev pub content : List ℕ → BitWriter → List ℕ
+content o st = bits (take (st .written .0) o) ++ bitsOf (st .count) (st .pending)
 
 -- ---- what one call does
 
 -- the content has grown by exactly the bits of a code, and the room behind the bytes written is as it was
-pub record Appends (o : List ℕ) (w p c : ℕ) (code o′ : List ℕ) (w′ p′ c′ : ℕ) : Type 0 where
-  pub good : Good (length o) w′ p′ c′
-  pub grown : content o′ w′ p′ c′ ≡ content o w p c ++ code
-  pub rest : drop w′ o′ ≡ drop w′ o
+pub record Appends (o : List ℕ) (st : BitWriter) (code o′ : List ℕ) (st′ : BitWriter) : Type 0 where
+  pub good : Good (length o) st′
+  pub grown : content o′ st′ ≡ content o st ++ code
+  pub rest : drop (st′ .written .0) o′ ≡ drop (st′ .written .0) o
   pub long : length o′ ≡ length o
 
 -- why a number is answered by a call that writes a code, which only values that have one (Has) are given; 10 exactly where the whole bytes would
 -- pass the room
-pub data WhyNot (o : List ℕ) (w p c : ℕ) (code : List ℕ) (Has : Type 0) (without : ℕ) : ℕ → Type 0 where
-  tooLong : most < length o → WhyNot o w p c code Has without 1
-  badState : length o ≤ most → badWriter (length o) w p c ≡ true → WhyNot o w p c code Has without 2
-  hasNone : Good (length o) w p c → (Has → ⊥) → WhyNot o w p c code Has without without
-  noRoom : Good (length o) w p c → Has → length o < (length (content o w p c) + length code) / 8 → WhyNot o w p c code Has without 10
+pub data WhyNot (o : List ℕ) (st : BitWriter) (code : List ℕ) (Has : Type 0) (without : ℕ) : ℕ → Type 0 where
+  roomTooLong : most < length o → WhyNot o st code Has without tooLong
+  stateBad : length o ≤ most → badWriter (length o) st ≡ true → WhyNot o st code Has without badState
+  codeMissing : Good (length o) st → (Has → ⊥) → WhyNot o st code Has without without
+  roomTooShort : Good (length o) st → Has → length o < (length (content o st) + length code) / 8 → WhyNot o st code Has without noRoom
 
 -- what a call's answer means
-abbrev pub WriteMeans : List ℕ → ℕ → ℕ → ℕ → List ℕ → Type 0 → ℕ → Wrote → Type 0
-WriteMeans o w p c code Has without (wrote w′ p′ c′ o′) = Good (length o) w p c × Has × Appends o w p c code o′ w′ p′ c′
-WriteMeans o w p c code Has without (kept k o′) = (o′ ≡ o) × WhyNot o w p c code Has without k
+abbrev pub WriteMeans : List ℕ → BitWriter → List ℕ → Type 0 → ℕ → Wrote → Type 0
+WriteMeans o st code Has without (wrote st′ o′) = Good (length o) st × Has × Appends o st code o′ st′
+WriteMeans o st code Has without (kept k o′) = (o′ ≡ o) × WhyNot o st code Has without k
 
 -- ---- a field, which is written by one call and read by another
 
@@ -66,11 +68,11 @@ without (flag b) = badWidth
 without (ue v) = noCode
 without (se z) = noCode
 
-abbrev pub writeField : List ℕ → ℕ → ℕ → ℕ → Field → Wrote
-writeField o w p c (u n v) = writeBits o w p c n v
-writeField o w p c (flag b) = writeBit o w p c b
-writeField o w p c (ue v) = writeUe o w p c v
-writeField o w p c (se z) = writeSe o w p c z
+abbrev pub writeField : List ℕ → BitWriter → Field → Wrote
+writeField o st (u n v) = writeBits o st n v
+writeField o st (flag b) = writeBit o st b
+writeField o st (ue v) = writeUe o st v
+writeField o st (se z) = writeSe o st z
 
 -- the field is read at p, up to q
 abbrev pub ReadsField : List ℕ → ℕ → Field → ℕ → Type 0
@@ -85,7 +87,7 @@ ReadsField s p (se z) q = readSe s p ≡ got z q
 pub data Written : List ℕ → BitWriter → List Field → List ℕ → BitWriter → Type 0 where
   nothing : {o : List ℕ} {st : BitWriter} → Written o st [] o st
   next : {o o₁ o₂ : List ℕ} {st st₁ st₂ : BitWriter} {f : Field} {fs : List Field}
-      → Writes st (Done st₁) o₁ (writeField o (st .written .0) (st .pending) (st .count) f) → Written o₁ st₁ fs o₂ st₂ → Written o st (f ∷ fs) o₂ st₂
+      → Writes st (Done st₁) o₁ (writeField o st f) → Written o₁ st₁ fs o₂ st₂ → Written o st (f ∷ fs) o₂ st₂
 
 -- the fields are read one after the other, from p up to q
 pub data ReadBack (s : List ℕ) : ℕ → List Field → ℕ → Type 0 where

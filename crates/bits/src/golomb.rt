@@ -8,7 +8,7 @@ ghost use Rattle.bits.specs.Answer.{mapped, mappedAnswer};
 use super::Mapped;
 
 // Odd k stands for (k + 1) / 2, even k for -(k / 2).
-pub fn signed_of(k: u32) -> i32
+pub(crate) fn signed_of(k: u32) -> i32
     requires { ⌜ k < 4294967295 ⌝ }
     ensures { λ r. ⌜ r ≡ signedOf k ⌝ }
 {
@@ -23,14 +23,14 @@ pub fn signed_of(k: u32) -> i32
 pub fn golomb_to_signed(val: u32) -> Mapped
     ensures { λ r. ⌜ mappedAnswer r ≡ mapped val ⌝ }
 {
-    if val == 4294967295 {
+    if val == u32::MAX {
         return Mapped::Refused(desk::NO_CODE);
     }
     Mapped::Value(signed_of(val))
 }
 
 // And back: 0, 1, -1, 2, -2 are 0, 1, 2, 3, 4.
-pub fn unsigned_of(value: i32) -> u32
+pub(crate) fn unsigned_of(value: i32) -> u32
     requires { ⌜ (value ≡ negsuc 2147483647 → ⊥) ⌝ }
     ensures { λ r. ⌜ r ≡ unsignedOf value ⌝ }
 {
@@ -42,7 +42,7 @@ pub fn unsigned_of(value: i32) -> u32
 }
 
 // The zeros before the one of value's code: the place of the highest one in value + 1.
-pub fn prefix_len(value: u32) -> u32
+pub(crate) fn prefix_len(value: u32) -> u32
     requires { ⌜ value < 4294967295 ⌝ }
     ensures { λ r. ⌜ Prefix value r ⌝ }
 {

@@ -25,14 +25,14 @@ impl BitPos {
     }
 
     // The byte that the bit here lies in.
-    pub fn holder(self) -> BytePos
+    pub(crate) fn holder(self) -> BytePos
         ensures { λ r. ⌜ r .0 ≡ self .0 / 8 ⌝ }
     {
         BytePos(self.0 / 8)
     }
 
     // The first byte that starts here or later. Nothing wraps, wherever the place is.
-    pub fn next_byte(self) -> BytePos
+    pub(crate) fn next_byte(self) -> BytePos
         ensures { λ r. ⌜ r .0 ≡ self .0 / 8 + (self .0 % 8 + 7) / 8 ⌝ }
     {
         BytePos(self.0 / 8 + (self.0 % 8 + 7) / 8)
@@ -55,7 +55,7 @@ fn gather(s: &[u8], from: BytePos, to: BytePos) -> u64
 }
 
 // The n bits from a place on.
-pub fn bits_at(s: &[u8], at: BitPos, n: usize) -> u32
+pub(crate) fn bits_at(s: &[u8], at: BitPos, n: usize) -> u32
     requires { ⌜ (at .0 + n ≤ size (now s)) × (n ≤ 32) × (length (now s) ≤ most) ⌝ }
     ensures { λ r. ⌜ r ≡ valueAt (now (s .entry)) (at .0) n ⌝ }
 {
@@ -78,7 +78,7 @@ fn top_place(byte: BytePos, b: u32) -> BitPos
 }
 
 // The place of the first one from a place on, or the end where there is none.
-pub fn first_one(s: &[u8], at: BitPos) -> BitPos
+pub(crate) fn first_one(s: &[u8], at: BitPos) -> BitPos
     requires { ⌜ (at .0 ≤ size (now s)) × (length (now s) ≤ most) ⌝ }
     ensures { λ r. ⌜ FirstFrom (now (s .entry)) (at .0) (r .0) ⌝ }
 {
@@ -104,7 +104,7 @@ pub fn first_one(s: &[u8], at: BitPos) -> BitPos
 }
 
 // The place after the last one, or 0 where there is none. The search starts at the end, where the stop bit is.
-pub fn after_last(s: &[u8]) -> BitPos
+pub(crate) fn after_last(s: &[u8]) -> BitPos
     requires { ⌜ length (now s) ≤ most ⌝ }
     ensures { λ r. ⌜ AfterLast (now (s .entry)) (r .0) ⌝ }
 {

@@ -4,8 +4,8 @@ ghost use Prim.Native.Nat.{_+_, _-_, _*_, _/_, _^_, _≤_, _<_};
 ghost use lib.ListN.{length};
 ghost use lib.Dec.{ltb, eqb};
 ghost use Rattle.desk.specs.Numbers.{most};
-ghost use Rattle.bits.specs.Step.{filled, stored, Good, Fits};
-ghost use Rattle.bits.specs.Answer.{newWriter, badWriter, entryOn, roomed, ueWidth, writeBits, writeBit, writeUe, writeSe, writeTrailing, after, Writes};
+ghost use Rattle.bits.specs.Step.{filled, wrote, whole, stored, Good, Fits};
+ghost use Rattle.bits.specs.Answer.{newWriter, badWriter, entryOn, roomed, ueWidth, writeBits, writeBit, writeUe, writeSe, writeTrailing, Writes};
 use super::BitWriter;
 use super::BytePos;
 use super::Put;
@@ -44,7 +44,7 @@ impl BitWriter {
 
     // Is this no state of a writer in a room of that many bytes?
     fn bad(self, room: usize) -> bool
-        ensures { λ r. ⌜ r ≡ badWriter room (self .written .0) (self .pending) (self .count) ⌝ }
+        ensures { λ r. ⌜ r ≡ badWriter room self ⌝ }
     {
         if self.written.0 > room {
             return true;
@@ -57,23 +57,23 @@ impl BitWriter {
 
     // The checks that every call makes first: 0, or the number of what is wrong.
     fn entry(self, room: usize) -> u8
-        ensures { λ r. ⌜ r ≡ entryOn room (self .written .0) (self .pending) (self .count) ⌝ }
+        ensures { λ r. ⌜ r ≡ entryOn room self ⌝ }
     {
         desk::entry(room, 0, 0, self.bad(room))
     }
 
     // Would the whole bytes pass the room, with n bits more?
     fn lacks_room(self, room: usize, n: u32) -> bool
-        requires { ⌜ Good room (self .written .0) (self .pending) (self .count) × (n ≤ 63) ⌝ }
-        ensures { λ r. ⌜ r ≡ ltb room (self .written .0 + (self .count + n) / 8) ⌝ }
+        requires { ⌜ Good room self × (n ≤ 63) ⌝ }
+        ensures { λ r. ⌜ r ≡ ltb room (whole self n) ⌝ }
     {
         room < self.written.0 + (self.count as usize + n as usize) / 8
     }
 
     // n bits of v, which have room.
     fn put(self, out: &mut [u8], n: u32, v: u32) -> BitWriter
-        requires { ⌜ Fits (length (now out)) (self .written .0) (self .pending) (self .count) n × (n ≤ 32) × (v < 2 ^ n) ⌝ }
-        ensures { λ r. ⌜ after r (now (out .exit)) ≡ stored (now (out .entry)) (self .written .0) (self .pending) (self .count) n v ⌝ }
+        requires { ⌜ Fits (length (now out)) self n × (n ≤ 32) × (v < 2 ^ n) ⌝ }
+        ensures { λ r. ⌜ wrote r (now (out .exit)) ≡ stored (now (out .entry)) self n v ⌝ }
     {
         let w = self.written.0;
         let all = ((self.pending as u64) << n) + v as u64;
@@ -90,8 +90,8 @@ impl BitWriter {
 
     // The same, or 10 where they have none.
     fn put_if_room(self, out: &mut [u8], n: u32, v: u32) -> Put
-        requires { ⌜ Good (length (now out)) (self .written .0) (self .pending) (self .count) × (n ≤ 32) × (v < 2 ^ n) ⌝ }
-        ensures { λ r. ⌜ Writes self r (now (out .exit)) (roomed (now (out .entry)) (self .written .0) (self .pending) (self .count) n v) ⌝ }
+        requires { ⌜ Good (length (now out)) self × (n ≤ 32) × (v < 2 ^ n) ⌝ }
+        ensures { λ r. ⌜ Writes self r (now (out .exit)) (roomed (now (out .entry)) self n v) ⌝ }
     {
         if self.lacks_room(out.len(), n) {
             return Put::Refused(desk::NO_ROOM, self);
@@ -101,7 +101,7 @@ impl BitWriter {
 
     // u(n): `width` bits of `value`.
     pub fn write(self, out: &mut [u8], width: u32, value: u32) -> Put
-        ensures { λ r. ⌜ Writes self r (now (out .exit)) (writeBits (now (out .entry)) (self .written .0) (self .pending) (self .count) width value) ⌝ }
+        ensures { λ r. ⌜ Writes self r (now (out .exit)) (writeBits (now (out .entry)) self width value) ⌝ }
     {
         let e = self.entry(out.len());
         if e != 0 {
@@ -117,7 +117,7 @@ impl BitWriter {
     }
 
     pub fn write_bit(self, out: &mut [u8], bit: bool) -> Put
-        ensures { λ r. ⌜ Writes self r (now (out .exit)) (writeBit (now (out .entry)) (self .written .0) (self .pending) (self .count) bit) ⌝ }
+        ensures { λ r. ⌜ Writes self r (now (out .exit)) (writeBit (now (out .entry)) self bit) ⌝ }
     {
         if bit {
             return self.write(out, 1, 1);
@@ -127,8 +127,8 @@ impl BitWriter {
 
     // n zeros, one at a time, which have room.
     fn put_zeros(self, out: &mut [u8], n: u32) -> BitWriter
-        requires { ⌜ Fits (length (now out)) (self .written .0) (self .pending) (self .count) n × (n ≤ 31) ⌝ }
-        ensures { λ r. ⌜ after r (now (out .exit)) ≡ stored (now (out .entry)) (self .written .0) (self .pending) (self .count) n 0 ⌝ }
+        requires { ⌜ Fits (length (now out)) self n × (n ≤ 31) ⌝ }
+        ensures { λ r. ⌜ wrote r (now (out .exit)) ≡ stored (now (out .entry)) self n 0 ⌝ }
     {
         let mut st = self;
         let mut i = 0;
@@ -141,8 +141,8 @@ impl BitWriter {
 
     // The code of a value that has one: zeros, then value + 1 (Rec 9.1). The room is worked out first, so that 10 writes nothing.
     fn put_ue(self, out: &mut [u8], value: u32) -> Put
-        requires { ⌜ Good (length (now out)) (self .written .0) (self .pending) (self .count) × (value < 4294967295) ⌝ }
-        ensures { λ r. ⌜ Writes self r (now (out .exit)) (roomed (now (out .entry)) (self .written .0) (self .pending) (self .count) (ueWidth value) (value + 1)) ⌝ }
+        requires { ⌜ Good (length (now out)) self × (value < 4294967295) ⌝ }
+        ensures { λ r. ⌜ Writes self r (now (out .exit)) (roomed (now (out .entry)) self (ueWidth value) (value + 1)) ⌝ }
     {
         let zeros = prefix_len(value);
         if self.lacks_room(out.len(), 2 * zeros + 1) {
@@ -154,13 +154,13 @@ impl BitWriter {
 
     // ue(v).
     pub fn write_ue(self, out: &mut [u8], value: u32) -> Put
-        ensures { λ r. ⌜ Writes self r (now (out .exit)) (writeUe (now (out .entry)) (self .written .0) (self .pending) (self .count) value) ⌝ }
+        ensures { λ r. ⌜ Writes self r (now (out .exit)) (writeUe (now (out .entry)) self value) ⌝ }
     {
         let e = self.entry(out.len());
         if e != 0 {
             return Put::Refused(e, self);
         }
-        if value == 4294967295 {
+        if value == u32::MAX {
             return Put::Refused(desk::NO_CODE, self);
         }
         self.put_ue(out, value)
@@ -168,13 +168,13 @@ impl BitWriter {
 
     // se(v).
     pub fn write_se(self, out: &mut [u8], value: i32) -> Put
-        ensures { λ r. ⌜ Writes self r (now (out .exit)) (writeSe (now (out .entry)) (self .written .0) (self .pending) (self .count) value) ⌝ }
+        ensures { λ r. ⌜ Writes self r (now (out .exit)) (writeSe (now (out .entry)) self value) ⌝ }
     {
         let e = self.entry(out.len());
         if e != 0 {
             return Put::Refused(e, self);
         }
-        if value == -2147483648 {
+        if value == i32::MIN {
             return Put::Refused(desk::NO_CODE, self);
         }
         self.put_ue(out, unsigned_of(value))
@@ -182,7 +182,7 @@ impl BitWriter {
 
     // A one, then zeros to the byte boundary (Rec 7.3.2.11).
     pub fn write_rbsp_trailing_bits(self, out: &mut [u8]) -> Put
-        ensures { λ r. ⌜ Writes self r (now (out .exit)) (writeTrailing (now (out .entry)) (self .written .0) (self .pending) (self .count)) ⌝ }
+        ensures { λ r. ⌜ Writes self r (now (out .exit)) (writeTrailing (now (out .entry)) self) ⌝ }
     {
         let e = self.entry(out.len());
         if e != 0 {

@@ -41,7 +41,7 @@ pub extern "C" fn dampfeather_write(
     value: u32,
     answer: &mut [u64; 4],
 )
-    ensures { λ _. ⌜ FrontsPut (writerAt written pending count) (now (out .exit)) (writeBits (now (out .entry)) written pending count width value) (now (answer .exit)) ⌝ }
+    ensures { λ _. ⌜ FrontsPut (writerAt written pending count) (now (out .exit)) (writeBits (now (out .entry)) (writerAt written pending count) width value) (now (answer .exit)) ⌝ }
 {
     let writer = BitWriter {
         written: BytePos(written),
@@ -62,7 +62,7 @@ pub extern "C" fn dampfeather_write_bit(
     bit: bool,
     answer: &mut [u64; 4],
 )
-    ensures { λ _. ⌜ FrontsPut (writerAt written pending count) (now (out .exit)) (writeBit (now (out .entry)) written pending count bit) (now (answer .exit)) ⌝ }
+    ensures { λ _. ⌜ FrontsPut (writerAt written pending count) (now (out .exit)) (writeBit (now (out .entry)) (writerAt written pending count) bit) (now (answer .exit)) ⌝ }
 {
     let writer = BitWriter {
         written: BytePos(written),
@@ -83,7 +83,7 @@ pub extern "C" fn dampfeather_write_ue(
     value: u32,
     answer: &mut [u64; 4],
 )
-    ensures { λ _. ⌜ FrontsPut (writerAt written pending count) (now (out .exit)) (writeUe (now (out .entry)) written pending count value) (now (answer .exit)) ⌝ }
+    ensures { λ _. ⌜ FrontsPut (writerAt written pending count) (now (out .exit)) (writeUe (now (out .entry)) (writerAt written pending count) value) (now (answer .exit)) ⌝ }
 {
     let writer = BitWriter {
         written: BytePos(written),
@@ -104,7 +104,7 @@ pub extern "C" fn dampfeather_write_se(
     value: i32,
     answer: &mut [u64; 4],
 )
-    ensures { λ _. ⌜ FrontsPut (writerAt written pending count) (now (out .exit)) (writeSe (now (out .entry)) written pending count value) (now (answer .exit)) ⌝ }
+    ensures { λ _. ⌜ FrontsPut (writerAt written pending count) (now (out .exit)) (writeSe (now (out .entry)) (writerAt written pending count) value) (now (answer .exit)) ⌝ }
 {
     let writer = BitWriter {
         written: BytePos(written),
@@ -124,7 +124,7 @@ pub extern "C" fn dampfeather_write_rbsp_trailing_bits(
     out: &mut [u8],
     answer: &mut [u64; 4],
 )
-    ensures { λ _. ⌜ FrontsPut (writerAt written pending count) (now (out .exit)) (writeTrailing (now (out .entry)) written pending count) (now (answer .exit)) ⌝ }
+    ensures { λ _. ⌜ FrontsPut (writerAt written pending count) (now (out .exit)) (writeTrailing (now (out .entry)) (writerAt written pending count)) (now (answer .exit)) ⌝ }
 {
     let writer = BitWriter {
         written: BytePos(written),

@@ -1,5 +1,5 @@
 -- Single fields. Assumes nothing.
-use mathlib.Core.Path.{_≡_, refl, sym, ap, _∙_}
+use mathlib.Core.Path.{_≡_, refl, _∙_}
 use mathlib.Core.Bool.{Bool, true, false, cond}
 use mathlib.Core.List.{List}
 use Prim.Native.Nat.{ℕ, _+_, _*_, _≤_, _<_}
@@ -7,8 +7,7 @@ use native.Mathlib.Nat.{mul-le-mul-left}
 use native.Mathlib.Omega.{arith}
 use borrow.Author.Tests.{ltb-true}
 use lib.Dec.{ltb}
-use lib.ListN.{length}
-use Rattle.bits.specs.Reading.{Ans, got, no, andThen, readUe, Entered, size}
+use Rattle.bits.specs.Reading.{Ans, got, no, andThen, readUe, Entered}
 use Rattle.bits.proofs.Reading.{ue-codes}
 use Rattle.pps.specs.Rule.{ueBelow, idBits, mostUnits}
 use Rattle.pps.specs.Step.{GoodIds}
@@ -44,7 +43,7 @@ pub record IdsKnown (s : List ℕ) (m q b n : ℕ) : Type 0 where
   pub width : idBits n ≤ 3
   pub narrow : b ≤ 3
   pub count : m < mostUnits
-  pub bits : (m + 1) * b ≤ 110592
+  pub bits : (m + 1) * b ≤ 3 * mostUnits
 
 pub ids-known : (s : List ℕ) (p n units k m q b : ℕ) → GoodIds s p n units → ueBelow units k s p ≡ got m q → b ≡ idBits n → IdsKnown s m q b n
 ids-known s p n units k m q b good e eb =

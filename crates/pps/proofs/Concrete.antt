@@ -2,7 +2,7 @@
 use mathlib.Core.Path.{_≡_, refl, sym, ap, _∙_, subst}
 use mathlib.Core.List.{List, [], _∷_}
 use mathlib.Core.Bool.{Bool, true, false, _&&_}
-use Prim.Native.Nat.{ℕ, zero, suc, _+_, _-_, _*_, _/_, _%_, _^_, _≤_, _<_}
+use Prim.Native.Nat.{ℕ, zero, suc, _+_, _-_, _*_, _/_, _%_, _^_, _<_}
 use native.Mathlib.Nat.{zero-add}
 use native.Mathlib.Omega.{arith}
 use borrow.Author.Tests.{ltb-true, leb-true, eqb-true}
@@ -12,7 +12,7 @@ use lib.Seq.{ext-getD}
 use lib.Pow.{pow-mono}
 use Rattle.desk.specs.Numbers.{most}
 use Rattle.bits.specs.Rule.{valueAt, prefixOf}
-use Rattle.bits.specs.Reading.{got, no, size, bitsOf, ueCode, bitCode, Stands, Entered, readBits, readBit, readUe}
+use Rattle.bits.specs.Reading.{got, bitsOf, bitCode, Stands, Entered, readBits, readBit, readUe}
 use Rattle.bits.proofs.Value.{value-zero, value-split, value-byte, value-field}
 use Rattle.bits.proofs.Codes.{length-bits-of, bit-of, value-stands, ue-bits, length-ue}
 use Rattle.bits.proofs.Top.{top-is}

@@ -1,5 +1,5 @@
 -- The entry checks, by what they test. Assumes nothing.
-use mathlib.Core.Path.{_≡_, refl, sym, ap, _∙_}
+use mathlib.Core.Path.{_≡_, refl, sym, _∙_}
 use mathlib.Core.Bool.{Bool, true, false, cond, _||_}
 use mathlib.Core.List.{List, [], _∷_}
 use Prim.Native.Nat.{ℕ, zero, suc, _≤_, _<_}
@@ -49,6 +49,7 @@ not-bad false e = refl
 pub record Passed (s : List ℕ) (p room width size : ℕ) (badCount : Bool) : Type 0 where
   pub entered : Entered s p
   pub ids : room ≤ most
+  pub picture : badPicture width size ≡ false
   pub wide : 0 < width
   pub some : 0 < size
   pub limit : size ≤ mostUnits
@@ -68,6 +69,7 @@ passed s p room width size badCount e =
     record {
       entered = record { small = few .0 .0; within = not-past s p (few .1) };
       ids = few .0 .1 .0;
+      picture = good .0;
       wide = omega arith;
       some = omega arith;
       limit = ltb-false mostUnits size (m .0);

@@ -1,29 +1,26 @@
 -- The width of a group id, and rows of ids. Assumes nothing.
-use mathlib.Core.Path.{_≡_, refl, sym, ap, _∙_, subst}
-use mathlib.Core.List.{List, [], _∷_}
+use mathlib.Core.Path.{_≡_, refl, ap, _∙_, subst}
+use mathlib.Core.List.{List, _∷_}
 use mathlib.Core.Bool.{Bool, true, false, cond}
 use Prim.Native.Nat.{ℕ, zero, suc, _+_, _-_, _*_, _^_, _≤_, _<_}
 use native.Mathlib.Omega.{arith}
-use native.Mathlib.Nat.{pow-suc, add-suc}
+use native.Mathlib.Nat.{pow-suc}
 use native.Mathlib.Decide.{decLt}
 use mathlib.Core.Logic.{dite}
 use borrow.Author.Tests.{leb-true, leb-false}
 use lib.Dec.{leb}
-use lib.Pow.{pow-mono, pow-pos}
-use lib.ListN.{length, take}
+use lib.Pow.{pow-mono}
+use lib.ListN.{take}
 use native.Mathlib.Nat.{suc-mul}
-use Rattle.bits.specs.Reading.{Ans, got, no, andThen, readBits, size, Entered, WhyEntry, long, past, WhyBits, bitsEntry, bitsWide, bitsShort}
+use Rattle.bits.specs.Reading.{Ans, got, no, andThen, readBits, size, Entered, long, past, WhyBits, bitsEntry, bitsWide, bitsShort}
 use Rattle.bits.proofs.Reading.{bits-codes, bits-refused}
 use Rattle.bits.proofs.Refusing.{bits-number}
 use Rattle.bits.proofs.Codes.{length-bits-of}
 use Rattle.pps.specs.Rule.{leastFrom, idBits, row}
-use Rattle.pps.specs.Step.{filled, RowSo, IdsPut}
+use Rattle.pps.specs.Codes.{LeastPower}
+use Rattle.pps.specs.Step.{RowSo, IdsPut}
+use Rattle.desk.specs.Room.{written}
 use Rattle.pps.proofs.Rows.{row-read, row-stands}
-
--- b is the least with 2 ^ b at least m
-pub record LeastPower (m b : ℕ) : Type 0 where
-  pub reaches : m ≤ 2 ^ b
-  pub least : (k : ℕ) → m ≤ 2 ^ k → b ≤ k
 
 power-lt : (b k : ℕ) → 2 ^ b < 2 ^ k → b < k
 power-lt b k h = dite (decLt b k) (λ l. l) (λ n. let z : ⊥ = omega (arith, pow-mono {i = k} {j = b} (omega arith)) in absurd z)
@@ -113,5 +110,5 @@ ids-put b count s p ids i xs at so h =
     let e : i ≡ count = omega (arith, so .within) in
     record {
       read = row-read (λ s p. readBits s p b) s count p ids i xs at so h ∙ ap (λ (k : ℕ). got (take k xs) at) e;
-      memory = row-stands (λ s p. readBits s p b) s count p ids i xs at so h ∙ ap (λ (k : ℕ). filled ids (take k xs)) e;
+      memory = row-stands (λ s p. readBits s p b) s count p ids i xs at so h ∙ ap (λ (k : ℕ). written ids (take k xs)) e;
     }

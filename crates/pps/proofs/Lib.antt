@@ -9,3 +9,5 @@ pub mod Unique
 pub mod Concrete
 pub mod Sheets
 pub mod Reach
+pub mod Codes
+pub mod Calls

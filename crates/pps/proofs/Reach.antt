@@ -1,18 +1,17 @@
 -- Every number that a call can give is given by some input. Assumes nothing.
-use mathlib.Core.Path.{_≡_, refl, sym, ap, _∙_}
+use mathlib.Core.Path.{_≡_, refl, _∙_}
 use mathlib.Core.List.{List, [], _∷_}
-use mathlib.Core.Bool.{Bool, true, false, _||_}
-use Prim.Native.Nat.{ℕ, _+_, _≤_, _<_}
+use mathlib.Core.Bool.{true, false, _||_}
+use Prim.Native.Nat.{ℕ, suc, _≤_, _<_}
 use native.Mathlib.Omega.{arith}
-use borrow.Author.Tests.{lt-ltb}
 use lib.Dec.{lit≤, lit<}
 use lib.ListN.{length}
 use Rattle.desk.specs.Numbers.{most, anyOver}
-use Rattle.bits.specs.Reading.{Ans, got, no, readUe, Entered, OneAfter, WhyUe, ueNone, ueMany, size}
+use Rattle.bits.specs.Reading.{got, no, readUe, Entered, long, past, OneAfter, ueEntry, ueNone, ueMany}
 use Rattle.bits.proofs.Refusing.{ue-refuse}
 use Rattle.bits.proofs.Value.{value-zero}
-use Rattle.pps.specs.Rule.{badPicture, badGroupCount, bottomRightOk, rectangle, ueBelow, row, numRefIdx, runLengths, rectangles, change, groupIds, byType, sliceGroups}
-use Rattle.pps.specs.Answer.{entryFor, behind, rectOf, groupsOf}
+use Rattle.pps.specs.Rule.{mostUnits, badPicture, badGroupCount, bottomRightOk, rectangle, ueBelow, row, numRefIdx, dispersed, runLengths, rectangles, change, groupIds, byType, sliceGroups}
+use Rattle.pps.specs.Answer.{entryFor, rectOf, groupsOf}
 use Rattle.pps.proofs.Concrete.{ue-here, bits-here, flag-here, made}
 use Rattle.pps.proofs.Entry.{entry-passes, entry-1, entry-2, entry-11}
 use Rattle.pps.proofs.Ids.{id-bits-is}
@@ -55,13 +54,15 @@ pub reach-4 : groupsOf [] 0 1 1 1 0 ≡ no 4
 unfolding groupsOf sliceGroups badPicture badGroupCount
 reach-4 = simp (by-fields [] 1 1 1 0 (lit≤ tt) (lit≤ tt) refl refl, no-ue)
 
+many-zeros : readUe (0 ∷ 0 ∷ 0 ∷ 0 ∷ 0x80 ∷ []) 0 ≡ no 5
+many-zeros =
+    let s : List ℕ = 0 ∷ 0 ∷ 0 ∷ 0 ∷ 0x80 ∷ [] in
+    ue-refuse (ueMany 32 (start s (lit≤ tt)) (record { within = lit< tt; one = made s 0 33 1 refl .value }) (lit< tt))
+
 -- 32 zeros and a one
 pub reach-5 : groupsOf (0 ∷ 0 ∷ 0 ∷ 0 ∷ 0x80 ∷ []) 0 1 1 1 0 ≡ no 5
 unfolding groupsOf sliceGroups badPicture badGroupCount
-reach-5 =
-    let s : List ℕ = 0 ∷ 0 ∷ 0 ∷ 0 ∷ 0x80 ∷ [] in
-    let many : readUe s 0 ≡ no 5 = ue-refuse (ueMany 32 (start s (lit≤ tt)) (record { within = lit< tt; one = made s 0 33 1 refl .value }) (lit< tt)) in
-    simp (by-fields s 1 1 1 0 (lit≤ tt) (lit≤ tt) refl refl, many)
+reach-5 = simp (by-fields (0 ∷ 0 ∷ 0 ∷ 0 ∷ 0x80 ∷ []) 1 1 1 0 (lit≤ tt) (lit≤ tt) refl refl, many-zeros)
 
 -- document 01's four ids, and room for three
 pub reach-10 : groupsOf (0x39 ∷ 0x06 ∷ 0x80 ∷ []) 0 2 2 4 3 ≡ no 10
@@ -121,8 +122,68 @@ pub reach-17 : groupsOf (0x3A ∷ []) 0 1 1 1 0 ≡ no 17
 unfolding groupsOf sliceGroups byType groupIds ueBelow badPicture badGroupCount
 reach-17 = let s : List ℕ = 0x3A ∷ [] in simp (by-fields s 1 1 1 0 (lit≤ tt) (lit≤ tt) refl refl, ue-here s 0 2 6 refl, ue-here s 5 1 1 refl)
 
--- ---- read_num_ref_idx: 32
+-- ---- 0, at the most map units: type 1
 
-pub reach-18 : numRefIdx (0x04 ∷ 0x20 ∷ []) 0 ≡ no 18
+pub reach-0 : groupsOf (0x40 ∷ []) 0 1 1 mostUnits 0 ≡ got dispersed 3
+unfolding groupsOf sliceGroups byType badPicture badGroupCount
+reach-0 = let s : List ℕ = 0x40 ∷ [] in simp (by-fields s 1 1 mostUnits 0 (lit≤ tt) (lit≤ tt) refl refl, ue-here s 0 1 1 refl)
+
+-- ---- SliceRect::read
+
+module _ (s : List ℕ) (p width units : ℕ) where
+  rect-entry : (k : ℕ) → entryFor s p 0 width units false ≡ suc k → rectOf s p width units ≡ no (suc k)
+  unfolding rectOf
+  rect-entry k e = simp e
+
+  rect-fields : entryFor s p 0 width units false ≡ 0 → rectOf s p width units ≡ rectangle width units s p
+  unfolding rectOf
+  rect-fields e = simp e
+
+-- 1 by a law
+pub reach-rect-1 : (s : List ℕ) (p width units : ℕ) → anyOver (length s ∷ 0 ∷ 0 ∷ []) ≡ true → rectOf s p width units ≡ no 1
+reach-rect-1 s p width units h = rect-entry s p width units 0 (entry-1 s p 0 width units false h)
+
+no-rect : (width units : ℕ) → badPicture width units ≡ true → rectOf [] 0 width units ≡ no 11
+no-rect width units h = rect-entry [] 0 width units 10 (entry-11 [] 0 0 width units false (start [] (lit≤ tt)) (lit≤ tt) (rw h))
+
+rect-at-0 : (s : List ℕ) (width units : ℕ) → length s ≤ most → badPicture width units ≡ false → rectOf s 0 width units ≡ rectangle width units s 0
+rect-at-0 s width units h b = rect-fields s 0 width units (entry-passes s 0 0 width units false (start s h) (lit≤ tt) b refl)
+
+-- place 1 of no bytes; each cause of 11; no bytes; 32 zeros and a one; rectangle 1 to 0; rectangle 0 to 2 in a picture of 1; rectangle 0 to 1
+pub reach-rect : (rectOf [] 1 1 1 ≡ no 2) × (rectOf [] 0 0 1 ≡ no 11) × (rectOf [] 0 1 0 ≡ no 11) × (rectOf [] 0 2 3 ≡ no 11) × (rectOf [] 0 1 36865 ≡ no 11)
+    × (rectOf [] 0 1 1 ≡ no 4) × (rectOf (0 ∷ 0 ∷ 0 ∷ 0 ∷ 0x80 ∷ []) 0 1 1 ≡ no 5) × (rectOf (0x50 ∷ []) 0 1 1 ≡ no 14) × (rectOf (0xB0 ∷ []) 0 1 1 ≡ no 15)
+    × (rectOf (0xA0 ∷ []) 0 1 1 ≡ got (record { «top_left» = 0; «bottom_right» = 1 }) 4)
+unfolding badPicture rectangle bottomRightOk
+reach-rect = (
+  rect-entry [] 1 1 1 1 (entry-2 [] 1 0 1 1 false (lit≤ tt) (lit≤ tt) (lit< tt)),
+  no-rect 0 1 refl,
+  no-rect 1 0 refl,
+  no-rect 2 3 refl,
+  no-rect 1 36865 refl,
+  rect-at-0 [] 1 1 (lit≤ tt) refl ∙ simp no-ue,
+  rect-at-0 (0 ∷ 0 ∷ 0 ∷ 0 ∷ 0x80 ∷ []) 1 1 (lit≤ tt) refl ∙ simp many-zeros,
+  rect-at-0 (0x50 ∷ []) 1 1 (lit≤ tt) refl ∙ simp (ue-here (0x50 ∷ []) 0 1 1 refl, ue-here (0x50 ∷ []) 3 0 0 refl),
+  rect-at-0 (0xB0 ∷ []) 1 1 (lit≤ tt) refl ∙ simp (ue-here (0xB0 ∷ []) 0 0 0 refl, ue-here (0xB0 ∷ []) 1 1 2 refl),
+  rect-at-0 (0xA0 ∷ []) 1 1 (lit≤ tt) refl ∙ simp (ue-here (0xA0 ∷ []) 0 0 0 refl, ue-here (0xA0 ∷ []) 1 1 1 refl),
+)
+
+-- ---- read_num_ref_idx
+
+-- 1 by a law; place 1 of no bytes; no bytes; 32 zeros and a one; 32; 31
+pub reach-idx-1 : (s : List ℕ) (p : ℕ) → most < length s → numRefIdx s p ≡ no 1
 unfolding ueBelow
-reach-18 = let s : List ℕ = 0x04 ∷ 0x20 ∷ [] in simp (ue-here s 0 5 32 refl)
+reach-idx-1 s p h = let e : readUe s p ≡ no 1 = ue-refuse (ueEntry (long h)) in simp e
+
+past-end : readUe [] 1 ≡ no 2
+past-end = ue-refuse (ueEntry (past (lit≤ tt) (lit< tt)))
+
+pub reach-idx : (numRefIdx [] 1 ≡ no 2) × (numRefIdx [] 0 ≡ no 4) × (numRefIdx (0 ∷ 0 ∷ 0 ∷ 0 ∷ 0x80 ∷ []) 0 ≡ no 5) × (numRefIdx (0x04 ∷ 0x20 ∷ []) 0 ≡ no 18)
+    × (numRefIdx (0x04 ∷ 0x00 ∷ []) 0 ≡ got 31 11)
+unfolding ueBelow
+reach-idx = (
+  simp past-end,
+  simp no-ue,
+  simp many-zeros,
+  simp (ue-here (0x04 ∷ 0x20 ∷ []) 0 5 32 refl),
+  simp (ue-here (0x04 ∷ 0x00 ∷ []) 0 5 31 refl),
+)

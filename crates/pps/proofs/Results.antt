@@ -1,24 +1,27 @@
 -- The rule's answer as the struct has it, for each map type. Assumes nothing.
-use mathlib.Core.Path.{_≡_, refl, sym, ap, ap₂, _∙_}
+use mathlib.Core.Path.{_≡_, refl, sym, ap, ap₂, _∙_, subst}
 use mathlib.Core.List.{List, []}
-use mathlib.Core.Bool.{Bool, cond}
+use mathlib.Core.Bool.{Bool}
 use Prim.Native.Nat.{ℕ, _+_, _-_, _*_, _≤_, _<_}
 use native.Mathlib.Omega.{arith}
 use borrow.Author.Tests.{lt-ltb, le-ltb, ne-eqb, le-leb, lt-leb}
 use lib.ListN.{length, take}
 use Rattle.desk.specs.Numbers.{badRunLength, badChangeRate, badPicSize}
-use Rattle.bits.specs.Reading.{Ans, got, no, andThen, readUe, readBit, size, Entered}
+use Rattle.bits.specs.Reading.{Ans, got, no, andThen, readUe, readBit, readBits, size, skipped, long, past, WhySkip, skipEntry, skipShort}
+use Rattle.bits.proofs.Reading.{skip-took, skip-refused}
 use Rattle.bits.specs.declared.BitReader.{BitReader}
 use Rattle.pps.specs.declared.Geometry.{Geometry}
 use Rattle.pps.specs.declared.SliceRect.{SliceRect}
 use Rattle.pps.specs.declared.SliceGroupChangeType.{SliceGroupChangeType}
 use Rattle.pps.specs.declared.SliceGroupRead.{SliceGroupRead}
 use Rattle.pps.specs.declared.SliceGroup.the-variants.{Interleaved, Dispersed, ForegroundAndLeftover, Changing, ExplicitAssignment}
-use Rattle.pps.specs.Rule.{badGroupCount, ueBelow, row, rectangle, idBits, groupId, Fields, interleaved, dispersed, foreground, changing, explicit, runLengths, rectangles, change, groupIds, byType, sliceGroups}
-use Rattle.pps.specs.Step.{filled, RowSo, IdsPut}
+use Rattle.pps.specs.Rule.{badGroupCount, ueBelow, row, rectangle, idBits, groupId, Fields, interleaved, dispersed, foreground, changing, runLengths, rectangles, change, groupIds, byType, sliceGroups}
+use Rattle.pps.specs.Step.{RowSo, GoodIds, IdsFit, IdsPut}
+use Rattle.desk.specs.Room.{written}
 use Rattle.pps.specs.Answer.{entryFor, roomed, groupsOf, idsGiven, noRuns, noRects, changeType, readerAt, whole, refusal, resultOf, GroupsGiven, ReadsGroups}
 use Rattle.pps.proofs.Rows.{row-stops, row-read, row-stands, row-length}
 use Rattle.pps.proofs.Ids.{ids-there, ids-short}
+use Rattle.pps.proofs.Below.{IdsKnown, ids-known}
 use Rattle.pps.proofs.Entry.{behind-some}
 
 -- a row that stops, or comes to its end, and what the call makes of it
@@ -72,38 +75,61 @@ module _ (from : BitReader) (n units : ℕ) (s : List ℕ) (p : ℕ) (ids : List
   Ids ids′ = GroupsGiven from n (roomed (length ids) (groupIds n units s p)) ids r ids′
 
   pub ids-stop : (k j : ℕ) → ueBelow units badPicSize s p ≡ no k → j ≡ k → r ≡ refusal from j → Ids ids
-  unfolding groupIds filled
+  unfolding groupIds written
   ids-stop k j e ej er = rw e (record { answers = rw (er, ej); memory = refl })
 
-  module _ (m q : ℕ) (first : ueBelow units badPicSize s p ≡ got m q) (g : Entered s q) (narrow : idBits n ≤ 32) where
-    pub ids-few : size s < q + (m + 1) * idBits n → r ≡ refusal from 4 → Ids ids
-    unfolding groupIds filled
-    ids-few h er = rw (first, ids-short (idBits n) narrow (m + 1) s q g h) (record { answers = er; memory = refl })
+  -- m + 1 ids of b bits follow, from q on
+  module _ (good : GoodIds s p n units) (m q : ℕ) (first : ueBelow units badPicSize s p ≡ got m q) (b : ℕ) (eb : b ≡ idBits n) where
+    known : IdsKnown s m q b n
+    known = ids-known s p n units badPicSize m q b good first eb
 
-    pub ids-no-room : q + (m + 1) * idBits n ≤ size s → length ids < m + 1 → r ≡ refusal from 10 → Ids ids
-    unfolding groupIds filled
-    ids-no-room h l er = go (row (groupId n) (m + 1) s q) refl
-      where
-        go : (x : Ans (List ℕ)) → row (groupId n) (m + 1) s q ≡ x → Ids ids
-        go (got vs e) f =
-            let long = row-length (groupId n) (m + 1) s q vs e f in
-            rw (first, f, lt-ltb (length ids) (length vs) (omega arith)) (record { answers = er; memory = refl })
-        go (no k) f = absurd (ids-there (idBits n) narrow (m + 1) s q k g h f)
+    narrow : idBits n ≤ 32
+    narrow = let w = known .width in omega arith
 
-    pub ids-end : (ids′ : List ℕ) (e : ℕ) → IdsPut s q (m + 1) (idBits n) ids ids′ e → m + 1 ≤ length ids
+    short : {k : ℕ} → WhySkip s q ((m + 1) * b) k → (k ≡ 4) × (size s < q + (m + 1) * b)
+    short (skipEntry (long h)) = absurd (let z : ⊥ = omega (arith, known .entered .small) in z)
+    short (skipEntry (past h l)) = absurd (let z : ⊥ = omega (arith, known .entered .within) in z)
+    short (skipShort g h) = (refl, h)
+
+    pub ids-few : (k j : ℕ) → skipped s q ((m + 1) * b) ≡ no k → j ≡ k → r ≡ refusal from j → Ids ids
+    unfolding groupIds written
+    ids-few k j e ej er =
+        let why = short (skip-refused s q ((m + 1) * b) k e) in
+        rw (first, ids-short (idBits n) narrow (m + 1) s q (known .entered) (subst (λ (w : ℕ). size s < q + (m + 1) * w) eb (why .1)))
+        (record { answers = rw (er, ej, why .0); memory = refl })
+
+    module _ (v : Unit) (e : ℕ) (there : skipped s q ((m + 1) * b) ≡ got v e) where
+      all-there : q + (m + 1) * b ≤ size s
+      all-there = let t = skip-took s q ((m + 1) * b) v e there in let w = t .within in omega (arith, t .next)
+
+      pub ids-fit : m + 1 ≤ length ids → IdsFit s q (m + 1) b ids
+      ids-fit h = let w = known .narrow in record { entered = known .entered; bits = all-there; narrow = omega arith; room = h }
+
+      pub ids-no-room : length ids < m + 1 → r ≡ refusal from 10 → Ids ids
+      unfolding groupIds written
+      ids-no-room l er = go (row (groupId n) (m + 1) s q) refl
+        where
+          go : (x : Ans (List ℕ)) → row (groupId n) (m + 1) s q ≡ x → Ids ids
+          go (got vs e) f =
+              let many = row-length (groupId n) (m + 1) s q vs e f in
+              rw (first, f, lt-ltb (length ids) (length vs) (omega arith)) (record { answers = er; memory = refl })
+          go (no k) f = absurd (ids-there (idBits n) narrow (m + 1) s q k (known .entered) (subst (λ (w : ℕ). q + (m + 1) * w ≤ size s) eb all-there) f)
+
+    pub ids-end : (ids′ : List ℕ) (e : ℕ) → IdsPut s q (m + 1) b ids ids′ e → m + 1 ≤ length ids
         → r ≡ whole (readerAt e) (ExplicitAssignment m) n noRuns noRects (m + 1) → Ids ids′
     unfolding groupIds
     ids-end ids′ e put h er =
         let vs = take (m + 1) ids′ in
-        let long = row-length (groupId n) (m + 1) s q vs e (put .read) in
+        let read : row (groupId n) (m + 1) s q ≡ got vs e = subst (λ (w : ℕ). row (λ s p. readBits s p w) (m + 1) s q ≡ got vs e) eb (put .read) in
+        let many = row-length (groupId n) (m + 1) s q vs e read in
         let less : length vs - 1 ≡ m = omega arith in
-        rw (first, put .read, le-ltb (length ids) (length vs) (omega arith)) (record { answers = rw (less, long) er; memory = put .memory })
+        rw (first, read, le-ltb (length ids) (length vs) (omega arith)) (record { answers = rw (less, many) er; memory = put .memory })
 
 -- ---- the whole read
 
 no-ids : (from : BitReader) (n : ℕ) (ids : List ℕ) (r : SliceGroupRead) (x : Ans Fields) → idsGiven x ≡ [] → r ≡ resultOf from n x
     → GroupsGiven from n (roomed (length ids) x) ids r ids
-unfolding filled
+unfolding written
 no-ids from n ids r (got f q) none er = rw (none, le-ltb (length ids) 0 (omega arith)) (record { answers = er; memory = rw none })
 no-ids from n ids r (no k) none er = record { answers = er; memory = refl }
 
@@ -119,13 +145,13 @@ module _ (s : List ℕ) (from : BitReader) (n : ℕ) (g : Geometry) (ids : List 
 
   module _ (bad : Bool) (count : bad ≡ badGroupCount n) (k₀ : ℕ) (entry : k₀ ≡ entryFor s p (length ids) w z bad) where
     pub read-entry : (k₀ ≡ 0 → ⊥) → r ≡ refusal from k₀ → ReadsGroups s from n g ids r ids
-    unfolding groupsOf filled
+    unfolding groupsOf written
     read-entry h er =
         rw (← count, sym entry, behind-some k₀ (roomed (length ids) (sliceGroups n w z s p)) h) (record { answers = er; memory = refl })
 
     module _ (pass : k₀ ≡ 0) where
       pub read-stop : (k j : ℕ) → readUe s p ≡ no k → j ≡ k → r ≡ refusal from j → ReadsGroups s from n g ids r ids
-      unfolding groupsOf sliceGroups filled
+      unfolding groupsOf sliceGroups written
       read-stop k j e ej er = rw (← count, sym entry ∙ pass, e) (record { answers = rw (er, ej); memory = refl })
 
       module _ (t q : ℕ) (first : readUe s p ≡ got t q) where

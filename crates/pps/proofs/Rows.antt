@@ -1,7 +1,6 @@
 -- A row of fields, read into a list from its front. Assumes nothing.
 use mathlib.Core.Path.{_≡_, refl, sym, ap, _∙_}
 use mathlib.Core.List.{List, [], _∷_, _++_, append-assoc, append-nil}
-use mathlib.Core.Bool.{cond}
 use Prim.Native.Nat.{ℕ, zero, suc, _+_, _-_, _≤_, _<_}
 use native.Mathlib.Omega.{arith}
 use native.Mathlib.Numerals.{add-one}
@@ -9,7 +8,8 @@ use lib.ListN.{length, take, drop, set, length-set, take-append-drop}
 use lib.Seq.{take-suc-set, length-take-le, drop-set-lt, drop-drop}
 use Rattle.bits.specs.Reading.{Ans, got, no, andThen}
 use Rattle.pps.specs.Rule.{row}
-use Rattle.pps.specs.Step.{filled, before, RowSo}
+use Rattle.pps.specs.Step.{before, RowSo}
+use Rattle.desk.specs.Room.{written}
 
 before-none : {A : Type 0} (x : Ans (List A)) → before [] x ≡ x
 before-none (got vs q) = refl
@@ -51,8 +51,8 @@ module _ {A : Type 0} (field : List ℕ → ℕ → Ans A) (s : List ℕ) (count
     unfolding row
     row-read h = let e : count - i ≡ 0 = omega arith in so .left ∙ rw (e, append-nil)
 
-    pub row-stands : count ≤ i → xs ≡ filled xs₀ (take i xs)
-    unfolding filled
+    pub row-stands : count ≤ i → xs ≡ written xs₀ (take i xs)
+    unfolding written
     row-stands h =
         let long : length (take i xs) ≡ i = length-take-le i xs (omega (arith, so .room, so .long, so .within)) in
         sym (take-append-drop i xs) ∙ ap (λ (l : List A). take i xs ++ l) (so .rest ∙ ap (λ (n : ℕ). drop n xs₀) (sym long))

@@ -1,12 +1,10 @@
 -- One outcome for each call: two results, and two memories, that meet a contract are equal. Assumes nothing.
-use mathlib.Core.Path.{_≡_, refl, sym, ap, ap₂, _∙_}
+use mathlib.Core.Path.{_≡_, sym, ap₂, _∙_}
 use mathlib.Core.List.{List}
 use Prim.Native.Nat.{ℕ}
 use native.Mathlib.Omega.{arith}
-use Rattle.bits.specs.Reading.{Ans, got, no, Reads}
+use Rattle.bits.specs.Reading.{Ans, got, no}
 use Rattle.bits.specs.declared.BitReader.{BitReader}
-use Rattle.bits.specs.declared.Bits.{Bits}
-use Rattle.bits.specs.declared.Bits.the-variants.{Value as BValue, Refused as BRefused}
 use Rattle.pps.specs.declared.Geometry.{Geometry}
 use Rattle.pps.specs.declared.SliceRect.{SliceRect}
 use Rattle.pps.specs.declared.Rect.{Rect}

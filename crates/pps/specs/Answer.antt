@@ -3,7 +3,7 @@
 use Prim.Native.Nat.{ℕ, zero, suc, _-_}
 use mathlib.Core.Path.{_≡_}
 use mathlib.Core.List.{List, [], _∷_}
-use mathlib.Core.Bool.{Bool, true, false, cond, _||_}
+use mathlib.Core.Bool.{Bool, false, cond, _||_}
 use lib.ListN.{length, replicate}
 use lib.Dec.{ltb, eqb}
 use Rattle.desk.specs.Numbers.{done, noRoom, badGeometry, entryOf}
@@ -20,7 +20,7 @@ use Rattle.pps.specs.declared.SliceGroup.the-variants.{Interleaved, Disp
 use Rattle.pps.specs.declared.SliceGroups.{SliceGroups}
 use Rattle.pps.specs.declared.SliceGroupRead.{SliceGroupRead}
 use Rattle.pps.specs.Rule.{badPicture, badGroupCount, rectangle, Fields, interleaved, dispersed, foreground, changing, explicit, sliceGroups}
-use Rattle.pps.specs.Step.{filled}
+use Rattle.desk.specs.Room.{written}
 
 -- ---- the entry checks: 1, 2, 11
 
@@ -101,7 +101,7 @@ caseOf (changing t flag rate) = Changing (changeType t) flag rate
 caseOf (explicit ids) = ExplicitAssignment (length ids - 1)
 
 abbrev pub runsOf : Fields → List ℕ
-runsOf (interleaved runs) = filled noRuns runs
+runsOf (interleaved runs) = written noRuns runs
 runsOf dispersed = noRuns
 runsOf (foreground rects) = noRuns
 runsOf (changing t flag rate) = noRuns
@@ -110,7 +110,7 @@ runsOf (explicit ids) = noRuns
 abbrev pub rectsOf : Fields → List SliceRect
 rectsOf (interleaved runs) = noRects
 rectsOf dispersed = noRects
-rectsOf (foreground rects) = filled noRects rects
+rectsOf (foreground rects) = written noRects rects
 rectsOf (changing t flag rate) = noRects
 rectsOf (explicit ids) = noRects
 
@@ -141,7 +141,7 @@ resultOf from n (no k) = refusal from k
 -- an answer as the struct has it, and what the lent id buffer holds as the call returns
 pub record GroupsGiven (from : BitReader) (n : ℕ) (a : Ans Fields) (ids : List ℕ) (r : SliceGroupRead) (ids′ : List ℕ) : Type 0 where
   pub answers : r ≡ resultOf from n a
-  pub memory : ids′ ≡ filled ids (idsGiven a)
+  pub memory : ids′ ≡ written ids (idsGiven a)
 
 -- the contract
 abbrev pub ReadsGroups : List ℕ → BitReader → ℕ → Geometry → List ℕ → SliceGroupRead → List ℕ → Type 0

@@ -9,7 +9,7 @@ use bits::BitReader;
 use bits::Bits;
 
 // ue(v) of less than the limit, or the number.
-pub fn read_ue_below(s: &[u8], from: BitReader, limit: u32, number: u8) -> Bits
+pub(crate) fn read_ue_below(s: &[u8], from: BitReader, limit: u32, number: u8) -> Bits
     ensures { λ r. ⌜ Reads from r (ueBelow limit number (now (s .entry)) (from .at .0)) ⌝ }
 {
     let field = from.read_ue(s);
@@ -23,7 +23,7 @@ pub fn read_ue_below(s: &[u8], from: BitReader, limit: u32, number: u8) -> Bits
 }
 
 // The bits of a group id: the least b with 2^b at least num_slice_groups_minus1 + 1.
-pub fn id_bits(num_slice_groups_minus1: u32) -> u32
+pub(crate) fn id_bits(num_slice_groups_minus1: u32) -> u32
     requires { ⌜ (1 ≤ «num_slice_groups_minus1») × («num_slice_groups_minus1» ≤ 7) ⌝ }
     ensures { λ r. ⌜ r ≡ idBits «num_slice_groups_minus1» ⌝ }
 {
@@ -35,7 +35,7 @@ pub fn id_bits(num_slice_groups_minus1: u32) -> u32
 }
 
 impl SliceGroupChangeType {
-    pub fn from_id(id: u32) -> SliceGroupChangeType
+    pub(crate) fn from_id(id: u32) -> SliceGroupChangeType
         ensures { λ r. ⌜ r ≡ changeType id ⌝ }
     {
         match id {

@@ -1,98 +1,24 @@
 // The slice-group part of the syntax table, Rec 7.3.2.2.
 ghost use mathlib.Core.Path.{_≡_};
 ghost use Prim.Native.Nat.{_≤_, _<_};
-ghost use lib.ListN.{length};
-ghost use Rattle.bits.specs.Reading.{Entered};
-ghost use Rattle.bits.specs.declared.BitReader.{BitReader};
-ghost use Rattle.pps.specs.Rule.{runLengths, rectangles, change, groupIds};
-ghost use Rattle.pps.specs.Step.{IdsFit, IdsPut, GoodIds};
-ghost use Rattle.pps.specs.Answer.{noRects, resultOf, ReadsGroups, GroupsGiven, refusal, whole, noRuns, roomed};
+ghost use Rattle.pps.specs.Rule.{runLengths, rectangles, change};
+ghost use Rattle.pps.specs.Answer.{resultOf, ReadsGroups};
 use super::Geometry;
 use super::Rect;
 use super::SliceGroup;
 use super::SliceGroupChangeType;
 use super::SliceGroupRead;
-use super::SliceGroups;
-use super::SliceRect;
+use super::answers::given;
+use super::answers::no_rectangles;
+use super::answers::plain;
+use super::answers::refused;
 use super::fields;
+use super::group_ids::read_group_ids;
 use super::picture;
 use super::rectangles;
 use bits::Bit;
 use bits::BitReader;
 use bits::Bits;
-
-fn no_rectangles() -> [SliceRect; 7]
-    ensures { λ r. ⌜ r ≡ noRects ⌝ }
-{
-    let none = SliceRect {
-        top_left: 0,
-        bottom_right: 0,
-    };
-    [none; 7]
-}
-
-// A refusal: the reader as it came, and groups that are all 0.
-fn refused(number: u8, from: BitReader) -> SliceGroupRead
-    ensures { λ r. ⌜ r ≡ refusal from number ⌝ }
-{
-    let run_length_minus1 = [0u32; 8];
-    let rectangles = no_rectangles();
-    SliceGroupRead {
-        number,
-        reader: from,
-        groups: SliceGroups {
-            group: SliceGroup::Interleaved,
-            num_slice_groups_minus1: 0,
-            run_length_minus1,
-            rectangles,
-        },
-        ids: 0,
-    }
-}
-
-// A read that came to its end.
-fn given(
-    at: BitReader,
-    group: SliceGroup,
-    num_slice_groups_minus1: u32,
-    run_length_minus1: [u32; 8],
-    rectangles: [SliceRect; 7],
-    ids: usize,
-) -> SliceGroupRead
-    ensures { λ r. ⌜ r ≡ whole at group «num_slice_groups_minus1» «run_length_minus1» rectangles ids ⌝ }
-{
-    SliceGroupRead {
-        number: desk::DONE,
-        reader: at,
-        groups: SliceGroups {
-            group,
-            num_slice_groups_minus1,
-            run_length_minus1,
-            rectangles,
-        },
-        ids,
-    }
-}
-
-// One of a case that uses no array.
-fn plain(
-    at: BitReader,
-    group: SliceGroup,
-    num_slice_groups_minus1: u32,
-    ids: usize,
-) -> SliceGroupRead
-    ensures { λ r. ⌜ r ≡ whole at group «num_slice_groups_minus1» noRuns noRects ids ⌝ }
-{
-    let runs = [0u32; 8];
-    given(
-        at,
-        group,
-        num_slice_groups_minus1,
-        runs,
-        no_rectangles(),
-        ids,
-    )
-}
 
 // Each of these reads a map type's fields, from `next` on; a refusal gives back `from`, where the whole read began.
 fn read_run_lengths(
@@ -188,57 +114,6 @@ fn read_change(
         slice_group_change_rate_minus1,
     };
     plain(end, group, num_slice_groups_minus1, 0)
-}
-
-// count ids of width bits, which are all there, into the front of `ids`.
-fn put_ids(s: &[u8], from: BitReader, count: usize, width: u32, ids: &mut [u8]) -> BitReader
-    requires { ⌜ IdsFit (now s) (from .at .0) count width (now ids) ⌝ }
-    ensures { λ r. ⌜ IdsPut (now (s .entry)) (from .at .0) count width (now (ids .entry)) (now (ids .exit)) (r .at .0) ⌝ }
-{
-    let mut at = from;
-    let mut i: usize = 0;
-    while i < count {
-        let field = at.read(s, width);
-        let Bits::Value(id, after) = field else {
-            return at;
-        };
-        ids[i] = id as u8;
-        at = after;
-        i += 1;
-    }
-    at
-}
-
-// Nothing is written before the bits of every id and room for them are known to be there.
-fn read_group_ids(
-    s: &[u8],
-    from: BitReader,
-    next: BitReader,
-    num_slice_groups_minus1: u32,
-    size: u32,
-    ids: &mut [u8],
-) -> SliceGroupRead
-    requires { ⌜ GoodIds (now s) (next .at .0) «num_slice_groups_minus1» size ⌝ }
-    ensures { λ r. ⌜ GroupsGiven from «num_slice_groups_minus1» (roomed (length (now (ids .entry))) (groupIds «num_slice_groups_minus1» size (now (s .entry)) (next .at .0))) (now (ids .entry)) r (now (ids .exit)) ⌝ }
-{
-    let first = fields::read_ue_below(s, next, size, desk::BAD_PIC_SIZE);
-    let Bits::Value(pic_size_in_map_units_minus1, after) = first else {
-        return refused(first.number(), from);
-    };
-    let width = fields::id_bits(num_slice_groups_minus1);
-    let count = pic_size_in_map_units_minus1 as usize + 1;
-    let at = after.at.0;
-    if at + count * width as usize > 8 * s.len() {
-        return refused(desk::BITS_RUN_OUT, from);
-    }
-    if count > ids.len() {
-        return refused(desk::NO_ROOM, from);
-    }
-    let end = put_ids(s, after, count, width, ids);
-    let group = SliceGroup::ExplicitAssignment {
-        pic_size_in_map_units_minus1,
-    };
-    plain(end, group, num_slice_groups_minus1, count)
 }
 
 impl SliceGroup {

@@ -2,7 +2,9 @@
 ghost use Rattle.bits.specs.Reading.{Reads};
 ghost use Rattle.pps.specs.Rule.{numRefIdx};
 
+mod answers;
 mod fields;
+mod group_ids;
 mod groups;
 mod picture;
 mod rectangles;

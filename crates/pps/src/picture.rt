@@ -1,7 +1,5 @@
 // What every read of slice groups is given, and the entry checks that tell whether it describes a picture.
 ghost use mathlib.Core.Path.{_≡_};
-ghost use lib.ListN.{length};
-ghost use Rattle.bits.specs.Reading.{pastEnd};
 ghost use Rattle.pps.specs.Rule.{badPicture, badGroupCount};
 ghost use Rattle.pps.specs.Answer.{entryFor};
 use super::Geometry;
@@ -29,7 +27,7 @@ impl Geometry {
     }
 }
 
-pub fn bad_group_count(num_slice_groups_minus1: u32) -> bool
+pub(crate) fn bad_group_count(num_slice_groups_minus1: u32) -> bool
     ensures { λ r. ⌜ r ≡ badGroupCount «num_slice_groups_minus1» ⌝ }
 {
     if num_slice_groups_minus1 < 1 {
@@ -39,7 +37,13 @@ pub fn bad_group_count(num_slice_groups_minus1: u32) -> bool
 }
 
 // The entry checks in document 01's order: 1, 2, 11. `ids` is the length of the lent id buffer.
-pub fn entry(s: &[u8], from: BitReader, ids: usize, geometry: Geometry, bad_count: bool) -> u8
+pub(crate) fn entry(
+    s: &[u8],
+    from: BitReader,
+    ids: usize,
+    geometry: Geometry,
+    bad_count: bool,
+) -> u8
     ensures { λ r. ⌜ r ≡ entryFor (now (s .entry)) (from .at .0) ids (geometry .«pic_width_in_mbs») (geometry .«pic_size_in_map_units») «bad_count» ⌝ }
 {
     let number = desk::entry(s.len(), ids, 0, from.past_end(s));

@@ -30,7 +30,7 @@ fn bottom_right_ok(size: u32, unit: u32) -> bool
 }
 
 // Both fields, and then the checks of them.
-pub fn rectangle(s: &[u8], from: BitReader, width: u32, size: u32) -> Rect
+pub(crate) fn rectangle(s: &[u8], from: BitReader, width: u32, size: u32) -> Rect
     requires { ⌜ 0 < width ⌝ }
     ensures { λ r. ⌜ ReadsRect from r (rectangle width size (now (s .entry)) (from .at .0)) ⌝ }
 {

@@ -2,7 +2,7 @@ use mathlib.Core.Path.{sym, _∙_}
 use native.Mathlib.Omega.{arith}
 use borrow.Author.Needs.{needs}
 use denote.Ref.{now}
-use Rattle.bits.specs.Answer.{hasMore, not}
+use Rattle.bits.specs.Answer.{hasMore, denied}
 use Rattle.bits.specs.Reading.{Entered}
 use Rattle.bits.proofs.Entry.{entered, refused, passed}
 use Rattle.bits.proofs.Ones.{behind-yes, behind-no}
@@ -14,7 +14,7 @@ entry-requires c κs = search needs
 
 returns : tie.Need-returns
 unfolding hasMore
-returns c = refused not _ _ (c .before .entry .ensures) _ (c .if1 .taken)
+returns c = refused denied _ _ (c .before .entry .ensures) _ (c .if1 .taken)
 
 ok : (c : tie.Else1) → Entered (now (c .before .before .before .args .s)) (c .before .before .before .args .self .at .0)
 ok c = entered _ _ (sym (c .before .entry .ensures) ∙ c .if1 .left)
@@ -29,7 +29,7 @@ returns-2 : tie.Need-returns-2
 unfolding hasMore
 returns-2 c =
     let a = c .before .before .before .before .before .args in
-    passed not _ _ (c .before .before .before .entry .ensures) (c .before .before .if1 .left)
+    passed denied _ _ (c .before .before .before .entry .ensures) (c .before .before .if1 .left)
     (simp (behind-yes (now (a .s)) (a .self .at .0) _ (c .before .after-last .ensures) (c .if2 .taken)))
 
 returns-3 : tie.Need-returns-3
@@ -37,7 +37,7 @@ unfolding hasMore
 returns-3 c =
     let a = c .before .before .before .before .before .args in
     let g = ok (c .before .before) in
-    passed not _ _ (c .before .before .before .entry .ensures) (c .before .before .if1 .left)
+    passed denied _ _ (c .before .before .before .entry .ensures) (c .before .before .if1 .left)
     (simp (behind-no (now (a .s)) (a .self .at .0) _ (c .before .after-last .ensures) (g .within) (c .if2 .left)))
 
 pub has-more-rbsp-data-spec : {M : Type 1} → statement M

@@ -1,11 +1,10 @@
 use mathlib.Core.Path.{sym, ap, subst, _∙_}
 use borrow.Author.Needs.{needs}
-use denote.Ref.{now}
 use mir.Syntax.{w32}
 use mir.ValLaws.{toZ-ofZ}
 use lib.IntN.{ℤ}
 use Rattle.bits.specs.Answer.{Ans, got, answer, readSe, asSigned, Same}
-use Rattle.bits.proofs.Taking.{ue-small, Small}
+use Rattle.bits.proofs.Reading.{ue-codes}
 use Rattle.bits.proofs.BitReader.read_se.Statement.{statement}
 use Rattle.bits.proofs.BitReader.read_se.Tie as tie
 
@@ -17,9 +16,7 @@ enum-known-k c = search needs
 
 signed-of-requires : tie.Need-signed-of-requires
 signed-of-requires c κs =
-    let a = c .before .before .before .before .before .args in
-    subst Small (sym (c .before .before .before .read-ue .ensures .answers) ∙ ap answer (c .before .k .given .1))
-    (ue-small (now (a .s)) (a .self .at .0))
+    ue-codes .took _ _ _ _ (sym (c .before .before .before .read-ue .ensures .answers) ∙ ap answer (c .before .k .given .1)) .ok
 
 enum-known-n : tie.Need-enum-known-n
 enum-known-n c = search needs

@@ -60,7 +60,12 @@ unfolding readUe
 returns-4 c =
     record {
       answers = passed no _ _ (c .before .before .before .before .before .entry .ensures) (c .before .before .before .before .if1 .left)
-          (simp (c .before .before .before .first-one .ensures .found, lt-ltb _ _ (c .before .before .if2 .left), le-ltb 31 _ (c .before .if3 .left), lt-ltb _ _ (c .if4 .taken)));
+          (simp (
+            c .before .before .before .first-one .ensures .found,
+            lt-ltb _ _ (c .before .before .if2 .left),
+            le-ltb 31 _ (c .before .if3 .left),
+            lt-ltb _ _ (c .if4 .taken),
+          ));
       same = refl;
     }
 
@@ -98,7 +103,14 @@ unfolding readUe
 returns-5 c =
     record {
       answers = passed no _ _ (c .before .before .before .before .before .before .entry .ensures) (c .before .before .before .before .before .if1 .left)
-          (simp (c .before .before .before .before .first-one .ensures .found, lt-ltb _ _ (c .before .before .before .if2 .left), le-ltb 31 _ (c .before .before .if3 .left), le-ltb _ _ (c .before .if4 .left), one-shl 32 (zeros (c .before)) (few (c .before)), c .bits-at .ensures));
+          (simp (
+            c .before .before .before .before .first-one .ensures .found,
+            lt-ltb _ _ (c .before .before .before .if2 .left),
+            le-ltb 31 _ (c .before .before .if3 .left),
+            le-ltb _ _ (c .before .if4 .left),
+            one-shl 32 (zeros (c .before)) (few (c .before)),
+            c .bits-at .ensures,
+          ));
       same = tt;
     }
 

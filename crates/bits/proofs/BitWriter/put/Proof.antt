@@ -63,7 +63,7 @@ returns c =
     let b = c .before .before .before .before .before .before .before in
     let a = b .args in
     let q = b .pre in
-    put-is (now (a .out)) (c .before .before .fill .last .0) (a .self .written .0) (a .self .pending) (a .self .count) (a .n) (a .v)
+    put-is (now (a .out)) (c .before .before .fill .last .0) (a .self) (a .n) (a .v)
     (q .0 .good .below) (q .0 .good .few) (q .1) (c .before .before .fill .ensures)
 
 pub put-spec : {M : Type 1} → statement M

@@ -71,7 +71,7 @@ put-requires c κs =
     let is = l .is in
     let n = 8 * a .self .written .0 + (a .self .count + m) in
     let h = subst (GoodAfter (length (now (a .out))) n) (sym (c .before .before .before .put-zeros .ensures))
-    (stored-good (now (a .out)) (a .self .written .0) (a .self .pending) (a .self .count) m 0 (q .small) (omega arith)) in
+    (stored-good (now (a .out)) (a .self) m 0 (q .small) (omega arith)) in
     let bits = h .2 in
     let short = l .short in
     (record { good = rw (h .0) (h .1); room = rw (h .0) (omega arith) }, omega arith, code-fits (a .value) m (l .high))
@@ -96,8 +96,8 @@ returns-2 c =
       answers = simp (lacks (e .before) ∙ e .if1 .left)
           (c .before .before .put .ensures
           ∙ ap (λ (x : Wrote). more x (m + 1) (v + 1)) (z .put-zeros .ensures)
-          ∙ stored-more o (a .self .written .0) (a .self .pending) (a .self .count) m 0 (m + 1) (v + 1) (code-fits v m (l .high)) (omega arith)
-          ∙ ap₂ (λ (k x : ℕ). stored o (a .self .written .0) (a .self .pending) (a .self .count) k x) width value);
+          ∙ stored-more o (a .self) m 0 (m + 1) (v + 1) (code-fits v m (l .high)) (omega arith)
+          ∙ ap₂ (λ (k x : ℕ). stored o (a .self) k x) width value);
       same = tt;
     }
 

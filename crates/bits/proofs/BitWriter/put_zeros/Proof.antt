@@ -3,14 +3,13 @@ use Prim.Native.Nat.{ℕ, _+_, _-_, _*_, _≤_}
 use native.Mathlib.Omega.{arith}
 use denote.Ref.{now}
 use lib.ListN.{length}
-use Rattle.bits.specs.Step.{stored, more, Wrote, GoodAfter}
-use Rattle.bits.specs.Answer.{after}
+use Rattle.bits.specs.Step.{wrote, stored, more, Wrote, GoodAfter}
 use Rattle.bits.proofs.Storing.{stored-none, stored-more, stored-good}
 use Rattle.bits.proofs.BitWriter.put_zeros.Statement.{statement}
 use Rattle.bits.proofs.BitWriter.put_zeros.Tie as tie
 
 abbrev Inv-loop : tie.InvT-loop
-Inv-loop out₀ n st₀ i₀ out st i = (i ≤ n) × (after st out ≡ stored out₀ (st₀ .written .0) (st₀ .pending) (st₀ .count) i 0)
+Inv-loop out₀ n st₀ i₀ out st i = (i ≤ n) × (wrote st out ≡ stored out₀ st₀ i 0)
 
 abbrev μ-loop : tie.MeasureT-loop
 μ-loop out₀ n st₀ i₀ out st i = n - i
@@ -18,18 +17,18 @@ abbrev μ-loop : tie.MeasureT-loop
 loop-holds : tie.Need-loop-holds Inv-loop μ-loop
 loop-holds c =
     let a = c .before .args in
-    (omega arith, sym (stored-none (now (a .out)) (a .self .written .0) (a .self .pending) (a .self .count) (c .before .pre .0 .good)))
+    (omega arith, sym (stored-none (now (a .out)) (a .self) (c .before .pre .0 .good)))
 
 -- the room and the state at the loop's test
 held : (c : tie.At-loop Inv-loop μ-loop) →
     let a = c .before .before .args in
-    GoodAfter (length (now (a .out))) (8 * a .self .written .0 + (a .self .count + c .loop .i)) (after (c .loop .st) (c .loop .out))
+    GoodAfter (length (now (a .out))) (8 * a .self .written .0 + (a .self .count + c .loop .i)) (wrote (c .loop .st) (c .loop .out))
 held c =
     let a = c .before .before .args in
     let q = c .before .before .pre .0 in
     let room = q .room in
     subst (GoodAfter (length (now (a .out))) (8 * a .self .written .0 + (a .self .count + c .loop .i))) (sym (c .loop .inv .1))
-    (stored-good (now (a .out)) (a .self .written .0) (a .self .pending) (a .self .count) (c .loop .i) 0 (q .good .small) (omega arith))
+    (stored-good (now (a .out)) (a .self) (c .loop .i) 0 (q .good .small) (omega arith))
 
 put-requires : tie.Need-put-requires Inv-loop μ-loop
 put-requires c κs =
@@ -53,7 +52,7 @@ loop-again c =
       omega arith,
       c .before .before .put .ensures
           ∙ ap (λ (r : Wrote). more r 1 0) (l .inv .1)
-          ∙ stored-more (now (a .out)) (a .self .written .0) (a .self .pending) (a .self .count) (l .i) 0 1 0 (omega arith) (omega arith),
+          ∙ stored-more (now (a .out)) (a .self) (l .i) 0 1 0 (omega arith) (omega arith),
     )
 
 same-length : tie.Need-same-length Inv-loop μ-loop
@@ -64,7 +63,7 @@ returns c =
     let a = c .before .before .before .args in
     let l = c .before .loop in
     let e : l .i ≡ a .n = omega arith in
-    l .inv .1 ∙ ap (λ (k : ℕ). stored (now (a .out)) (a .self .written .0) (a .self .pending) (a .self .count) k 0) e
+    l .inv .1 ∙ ap (λ (k : ℕ). stored (now (a .out)) (a .self) k 0) e
 
 pub put-zeros-spec : {M : Type 1} → statement M
 put-zeros-spec =

@@ -21,8 +21,8 @@ returns c =
     let o = now (c .before .before .before .args .out) in
     record { answers = refused (λ (k : ℕ). kept k o) _ _ (c .before .entry .ensures) _ (c .if1 .taken); same = refl }
 
-ok : (c : tie.Else1) → let a = c .before .before .before .args in Good (length (now (a .out))) (a .self .written .0) (a .self .pending) (a .self .count)
-ok c = good _ _ _ _ (sym (c .before .entry .ensures) ∙ c .if1 .left)
+ok : (c : tie.Else1) → let a = c .before .before .before .args in Good (length (now (a .out))) (a .self)
+ok c = good _ _ (sym (c .before .entry .ensures) ∙ c .if1 .left)
 
 returns-2 : tie.Need-returns-2
 unfolding writeBits

@@ -21,8 +21,8 @@ returns c =
     let o = now (c .before .before .before .args .out) in
     record { answers = refused (λ (k : ℕ). kept k o) _ _ (c .before .entry .ensures) _ (c .if1 .taken); same = refl }
 
-ok : (c : tie.Else1) → let a = c .before .before .before .args in Good (length (now (a .out))) (a .self .written .0) (a .self .pending) (a .self .count)
-ok c = good _ _ _ _ (sym (c .before .entry .ensures) ∙ c .if1 .left)
+ok : (c : tie.Else1) → let a = c .before .before .before .args in Good (length (now (a .out))) (a .self)
+ok c = good _ _ (sym (c .before .entry .ensures) ∙ c .if1 .left)
 
 cast-zeros : tie.Need-cast-zeros
 cast-zeros c = search needs
@@ -58,7 +58,7 @@ returns-2 c =
     let r = c .before .before .put-if-room .ensures in
     record {
       answers = passed (λ (k : ℕ). kept k o) _ _ (b .before .before .entry .ensures) (b .before .if1 .left)
-          (r .answers ∙ ap₂ (λ (i y : ℕ). roomed o (st .written .0) (st .pending) (st .count) i y) n8 (one-shl 32 n (omega arith)));
+          (r .answers ∙ ap₂ (λ (i y : ℕ). roomed o st i y) n8 (one-shl 32 n (omega arith)));
       same = r .same;
     }
 

@@ -26,8 +26,8 @@ returns c =
     let o = now (c .before .before .before .args .out) in
     record { answers = refused (λ (k : ℕ). kept k o) _ _ (c .before .entry .ensures) _ (c .if1 .taken); same = refl }
 
-ok : (c : tie.Else1) → let a = c .before .before .before .args in Good (length (now (a .out))) (a .self .written .0) (a .self .pending) (a .self .count)
-ok c = good _ _ _ _ (sym (c .before .entry .ensures) ∙ c .if1 .left)
+ok : (c : tie.Else1) → let a = c .before .before .before .args in Good (length (now (a .out))) (a .self)
+ok c = good _ _ (sym (c .before .entry .ensures) ∙ c .if1 .left)
 
 returns-2 : tie.Need-returns-2
 unfolding writeSe
@@ -67,7 +67,7 @@ returns-3 c =
     record {
       answers = passed (λ (k : ℕ). kept k o) _ _ (b .before .before .entry .ensures) (b .before .if1 .left)
           (simp (not-least (a .value) (d .fits .value) (b .if2 .left))
-          (r .answers ∙ ap (λ (k : ℕ). roomed o (a .self .written .0) (a .self .pending) (a .self .count) (ueWidth k) (k + 1)) is));
+          (r .answers ∙ ap (λ (k : ℕ). roomed o (a .self) (ueWidth k) (k + 1)) is));
       same = r .same;
     }
 

@@ -20,15 +20,16 @@ returns c =
     let o = now (c .before .before .before .args .out) in
     record { answers = refused (λ (k : ℕ). kept k o) _ _ (c .before .entry .ensures) _ (c .if1 .taken); same = refl }
 
-ok : (c : tie.Else1) → let a = c .before .before .before .args in Good (length (now (a .out))) (a .self .written .0) (a .self .pending) (a .self .count)
-ok c = good _ _ _ _ (sym (c .before .entry .ensures) ∙ c .if1 .left)
+ok : (c : tie.Else1) → let a = c .before .before .before .args in Good (length (now (a .out))) (a .self)
+ok c = good _ _ (sym (c .before .entry .ensures) ∙ c .if1 .left)
 
 returns-2 : tie.Need-returns-2
 unfolding writeUe
 returns-2 c =
     let o = now (c .before .before .before .before .args .out) in
     record {
-      answers = passed (λ (k : ℕ). kept k o) _ _ (c .before .before .entry .ensures) (c .before .if1 .left) (simp (le-leb 4294967295 (c .before .before .before .before .args .value) (omega arith)));
+      answers = passed (λ (k : ℕ). kept k o) _ _ (c .before .before .entry .ensures) (c .before .if1 .left)
+          (simp (le-leb 4294967295 (c .before .before .before .before .args .value) (omega arith)));
       same = refl;
     }
 
@@ -45,7 +46,8 @@ returns-3 c =
     let o = now (b .before .before .before .before .args .out) in
     let r = c .before .before .put-ue .ensures in
     record {
-      answers = passed (λ (k : ℕ). kept k o) _ _ (b .before .before .entry .ensures) (b .before .if1 .left) (simp (lt-leb 4294967295 (b .before .before .before .before .args .value) (omega (arith, b, b .before .before .before .before .fits .value))) (r .answers));
+      answers = passed (λ (k : ℕ). kept k o) _ _ (b .before .before .entry .ensures) (b .before .if1 .left)
+          (simp (lt-leb 4294967295 (b .before .before .before .before .args .value) (omega (arith, b, b .before .before .before .before .fits .value))) (r .answers));
       same = r .same;
     }
 

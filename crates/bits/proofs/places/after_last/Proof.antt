@@ -7,7 +7,7 @@ use borrow.Author.Needs.{needs}
 use lib.Count.{trailingZeros}
 use Rattle.bits.specs.Rule.{valueAt, size}
 use Rattle.bits.proofs.Value.{value-zero}
-use Rattle.bits.proofs.Ones.{zeros-more, last-in, last-nowhere}
+use Rattle.bits.proofs.Ones.{after-zero-byte, after-in, after-none}
 use Rattle.bits.proofs.Trailing.{trailing-byte}
 use Rattle.bits.proofs.places.after_last.Statement.{statement}
 use Rattle.bits.proofs.places.after_last.Tie as tie
@@ -65,7 +65,7 @@ returns c =
     let f = few c in
     let t = ap (trailingZeros 32) (b .2) in
     let up : i ≡ i - 1 + 1 = omega arith in
-    last-in s (i - 1) (8 * i - trailingZeros 32 (c .before .byte-to-u32 .result)) (omega arith) (b .0) (b .1)
+    after-in s (i - 1) (8 * i - trailingZeros 32 (c .before .byte-to-u32 .result)) (omega arith) (b .0) (b .1)
     (subst (λ (k : ℕ). valueAt s (8 * k) (size s - 8 * k) ≡ 0) up (l .inv .1)) (omega arith)
 
 sub-i : tie.Need-sub-i Inv-loop μ-loop
@@ -80,14 +80,14 @@ loop-again c =
     let l = c .before .before .before .before .loop in
     let i = l .i in
     let up : i ≡ i - 1 + 1 = omega arith in
-    (omega arith, zeros-more s (i - 1) (omega arith) (omega arith) (subst (λ (k : ℕ). valueAt s (8 * k) (size s - 8 * k) ≡ 0) up (l .inv .1)))
+    (omega arith, after-zero-byte s (i - 1) (omega arith) (omega arith) (subst (λ (k : ℕ). valueAt s (8 * k) (size s - 8 * k) ≡ 0) up (l .inv .1)))
 
 returns-2 : tie.Need-returns-2 Inv-loop μ-loop
 returns-2 c =
     let s = now (c .before .before .before .args .s) in
     let l = c .before .loop in
     let i8 : 8 * l .i ≡ 0 = omega arith in
-    last-nowhere s (subst (λ (k : ℕ). valueAt s k (size s - k) ≡ 0) i8 (l .inv .1))
+    after-none s (subst (λ (k : ℕ). valueAt s k (size s - k) ≡ 0) i8 (l .inv .1))
 
 pub after-last-spec : {M : Type 1} → statement M
 after-last-spec =

@@ -72,7 +72,8 @@ byte-to-u32-requires c κs = search needs
 
 top-place-requires-2 : tie.Need-top-place-requires-2 Inv-loop μ-loop
 top-place-requires-2 c κs =
-    omega (arith, c .before .before .shared-slice-known2 .given (c .before .before .before .before .loop .i), c .before .before .before .before .before .before .before .before .before .before .pre)
+    let pre = c .before .before .before .before .before .before .before .before .before .before .pre in
+    omega (arith, c .before .before .shared-slice-known2 .given (c .before .before .before .before .loop .i), pre)
 
 returns-3 : tie.Need-returns-3 Inv-loop μ-loop
 returns-3 c =

@@ -1,5 +1,5 @@
 use Rattle.pps.proofs.Entry.{good-read}
-use mathlib.Core.Path.{_≡_, sym, ap, _∙_}
+use mathlib.Core.Path.{sym, ap, _∙_}
 use native.Mathlib.Omega.{arith}
 use lib.ListN.{length}
 use Rattle.bits.specs.Reading.{answer, number}
@@ -9,18 +9,6 @@ use Rattle.pps.proofs.Below.{ue-enters}
 use borrow.Author.Needs.{needs}
 use Rattle.pps.proofs.SliceGroup.read.Statement.{statement}
 use Rattle.pps.proofs.SliceGroup.read.Tie as tie
-use Rattle.pps.proofs.SliceGroup.read.Reads as reads
-use Rattle.pps.proofs.SliceGroup.read.Lts as lts
-use Rattle.bits.proofs.BitReader.read_ue.Reads as read-ue-reads
-use Rattle.bits.proofs.Bits.number.Reads as number-reads
-use Rattle.pps.proofs.groups.plain.Reads as plain-reads
-use Rattle.pps.proofs.groups.read_change.Reads as read-change-reads
-use Rattle.pps.proofs.groups.read_group_ids.Reads as read-group-ids-reads
-use Rattle.pps.proofs.groups.read_rectangles.Reads as read-rectangles-reads
-use Rattle.pps.proofs.groups.read_run_lengths.Reads as read-run-lengths-reads
-use Rattle.pps.proofs.groups.refused.Reads as refused-reads
-use Rattle.pps.proofs.picture.bad_group_count.Reads as bad-group-count-reads
-use Rattle.pps.proofs.picture.entry.Reads as entry-reads
 
 bad-group-count-requires : tie.Need-bad-group-count-requires
 bad-group-count-requires c κs = search needs

@@ -1,8 +1,6 @@
 use borrow.Author.Tests.{eq-eqb, ne-eqb}
 use Rattle.pps.proofs.SliceGroupChangeType.from_id.Statement.{statement}
 use Rattle.pps.proofs.SliceGroupChangeType.from_id.Tie as tie
-use Rattle.pps.proofs.SliceGroupChangeType.from_id.Reads as reads
-use Rattle.pps.proofs.SliceGroupChangeType.from_id.Lts as lts
 
 returns : tie.Need-returns
 returns c = simp (eq-eqb _ 3 (c .match .keys1))

@@ -1,4 +1,4 @@
-use mathlib.Core.Path.{_≡_, refl, sym, ap, _∙_}
+use mathlib.Core.Path.{refl, sym, ap, _∙_}
 use mathlib.Core.Bool.{false}
 use Rattle.pps.specs.Rule.{rectangle}
 use Rattle.pps.specs.Answer.{rectOf, behind}
@@ -6,10 +6,6 @@ use Rattle.pps.proofs.Entry.{passed, behind-none, behind-some}
 use borrow.Author.Needs.{needs}
 use Rattle.pps.proofs.SliceRect.read.Statement.{statement}
 use Rattle.pps.proofs.SliceRect.read.Tie as tie
-use Rattle.pps.proofs.SliceRect.read.Reads as reads
-use Rattle.pps.proofs.SliceRect.read.Lts as lts
-use Rattle.pps.proofs.picture.entry.Reads as entry-reads
-use Rattle.pps.proofs.rectangles.rectangle.Reads as rectangle-reads
 
 entry-requires : tie.Need-entry-requires
 entry-requires c κs = search needs

@@ -4,8 +4,6 @@ use Rattle.pps.proofs.Ids.{id-bits-is}
 use borrow.Author.Needs.{needs}
 use Rattle.pps.proofs.fields.id_bits.Statement.{statement}
 use Rattle.pps.proofs.fields.id_bits.Tie as tie
-use Rattle.pps.proofs.fields.id_bits.Reads as reads
-use Rattle.pps.proofs.fields.id_bits.Lts as lts
 
 returns : tie.Need-returns
 returns c = let e = c .match .keys1 in sym (id-bits-is (c .before .args .num-slice-groups-minus1) 0 (omega arith) (omega arith))

@@ -1,13 +1,10 @@
-use mathlib.Core.Path.{_≡_, refl, sym, ap, _∙_, subst}
+use mathlib.Core.Path.{refl, sym, ap, _∙_}
 use borrow.Author.Tests.{lt-ltb, le-ltb}
-use Rattle.bits.specs.Reading.{answer, Same}
+use Rattle.bits.specs.Reading.{answer}
 use Rattle.pps.specs.Rule.{ueBelow}
 use borrow.Author.Needs.{needs}
 use Rattle.pps.proofs.fields.read_ue_below.Statement.{statement}
 use Rattle.pps.proofs.fields.read_ue_below.Tie as tie
-use Rattle.pps.proofs.fields.read_ue_below.Reads as reads
-use Rattle.pps.proofs.fields.read_ue_below.Lts as lts
-use Rattle.bits.proofs.BitReader.read_ue.Reads as read-ue-reads
 
 read-ue-requires : tie.Need-read-ue-requires
 read-ue-requires c κs = search needs

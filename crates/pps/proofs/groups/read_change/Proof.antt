@@ -1,4 +1,4 @@
-use mathlib.Core.Path.{_≡_, sym, ap, _∙_}
+use mathlib.Core.Path.{sym, ap, _∙_}
 use Rattle.bits.specs.Reading.{answer, bitAnswer, number}
 use Rattle.bits.specs.declared.Bits.{Bits}
 use Rattle.bits.specs.declared.Bit.{Bit}
@@ -6,15 +6,6 @@ use Rattle.pps.proofs.Results.{flag-stop, rate-stop, change-end}
 use borrow.Author.Needs.{needs}
 use Rattle.pps.proofs.groups.read_change.Statement.{statement}
 use Rattle.pps.proofs.groups.read_change.Tie as tie
-use Rattle.pps.proofs.groups.read_change.Reads as reads
-use Rattle.pps.proofs.groups.read_change.Lts as lts
-use Rattle.bits.proofs.Bit.number.Reads as Bit-number-reads
-use Rattle.bits.proofs.BitReader.read_bit.Reads as read-bit-reads
-use Rattle.bits.proofs.Bits.number.Reads as Bits-number-reads
-use Rattle.pps.proofs.SliceGroupChangeType.from_id.Reads as from-id-reads
-use Rattle.pps.proofs.fields.read_ue_below.Reads as read-ue-below-reads
-use Rattle.pps.proofs.groups.plain.Reads as plain-reads
-use Rattle.pps.proofs.groups.refused.Reads as refused-reads
 
 read-bit-requires : tie.Need-read-bit-requires
 read-bit-requires c κs = search needs

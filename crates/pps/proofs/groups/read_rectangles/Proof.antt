@@ -1,27 +1,18 @@
 use Rattle.pps.proofs.Results.{rects-stop, rects-end}
 use Rattle.pps.proofs.Rows.{row-first, row-more}
-use mathlib.Core.Path.{_≡_, refl, sym, ap, _∙_, subst}
+use mathlib.Core.Path.{sym, ap, _∙_, subst}
 use mathlib.Core.List.{List}
-use Prim.Native.Nat.{ℕ, _+_, _-_, _≤_}
+use Prim.Native.Nat.{_-_}
 use native.Mathlib.Omega.{arith}
-use lib.ListN.{length, take}
 use Rattle.bits.specs.Reading.{number}
 use Rattle.pps.specs.declared.Rect.{Rect}
 use Rattle.pps.specs.declared.SliceRect.{SliceRect}
-use Rattle.pps.specs.declared.SliceGroup.the-variants.{ForegroundAndLeftover}
 use Rattle.pps.specs.Rule.{rectangle}
 use Rattle.pps.specs.Step.{RowSo}
-use Rattle.pps.specs.Answer.{noRuns, noRects, whole, refusal, rectAnswer}
+use Rattle.pps.specs.Answer.{noRects, rectAnswer}
 use borrow.Author.Needs.{needs}
 use Rattle.pps.proofs.groups.read_rectangles.Statement.{statement}
 use Rattle.pps.proofs.groups.read_rectangles.Tie as tie
-use Rattle.pps.proofs.groups.read_rectangles.Reads as reads
-use Rattle.pps.proofs.groups.read_rectangles.Lts as lts
-use Rattle.pps.proofs.Rect.number.Reads as number-reads
-use Rattle.pps.proofs.groups.given.Reads as given-reads
-use Rattle.pps.proofs.groups.no_rectangles.Reads as no-rectangles-reads
-use Rattle.pps.proofs.groups.refused.Reads as refused-reads
-use Rattle.pps.proofs.rectangles.rectangle.Reads as rectangle-reads
 
 abbrev Inv-loop : tie.InvT-loop
 Inv-loop s from num-slice-groups-minus1 width size rects₀ at₀ i₀ count rects at i = RowSo (rectangle width size) s count (at₀ .at .0) noRects i rects (at .at .0)

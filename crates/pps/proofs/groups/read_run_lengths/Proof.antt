@@ -1,28 +1,17 @@
 use Rattle.pps.proofs.Results.{runs-stop, runs-end}
 use Rattle.pps.proofs.Rows.{row-first, row-more}
-use mathlib.Core.Path.{_≡_, refl, sym, ap, ap₂, _∙_}
-use mathlib.Core.List.{List}
-use Prim.Native.Nat.{ℕ, _+_, _-_, _≤_}
+use mathlib.Core.Path.{sym, ap, _∙_}
+use Prim.Native.Nat.{_+_, _-_}
 use native.Mathlib.Omega.{arith}
-use lib.ListN.{length, take}
 use Rattle.bits.specs.Reading.{answer, number}
 use Rattle.bits.specs.declared.Bits.{Bits}
 use Rattle.desk.specs.Numbers.{badRunLength}
-use Rattle.pps.specs.declared.SliceRect.{SliceRect}
-use Rattle.pps.specs.declared.SliceGroup.the-variants.{Interleaved}
 use Rattle.pps.specs.Rule.{ueBelow}
 use Rattle.pps.specs.Step.{RowSo}
-use Rattle.pps.specs.Answer.{noRuns, whole, refusal}
+use Rattle.pps.specs.Answer.{noRuns}
 use borrow.Author.Needs.{needs}
 use Rattle.pps.proofs.groups.read_run_lengths.Statement.{statement}
 use Rattle.pps.proofs.groups.read_run_lengths.Tie as tie
-use Rattle.pps.proofs.groups.read_run_lengths.Reads as reads
-use Rattle.pps.proofs.groups.read_run_lengths.Lts as lts
-use Rattle.bits.proofs.Bits.number.Reads as number-reads
-use Rattle.pps.proofs.fields.read_ue_below.Reads as read-ue-below-reads
-use Rattle.pps.proofs.groups.given.Reads as given-reads
-use Rattle.pps.proofs.groups.no_rectangles.Reads as no-rectangles-reads
-use Rattle.pps.proofs.groups.refused.Reads as refused-reads
 
 abbrev Inv-loop : tie.InvT-loop
 Inv-loop s from num-slice-groups-minus1 size run-length-minus1₀ at₀ i₀ count run-length-minus1 at i = RowSo (ueBelow size badRunLength) s count (at₀ .at .0) noRuns i run-length-minus1 (at .at .0)

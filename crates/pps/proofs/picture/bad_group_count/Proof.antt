@@ -2,8 +2,6 @@ use borrow.Author.Tests.{lt-ltb, le-ltb}
 use Rattle.pps.specs.Rule.{badGroupCount}
 use Rattle.pps.proofs.picture.bad_group_count.Statement.{statement}
 use Rattle.pps.proofs.picture.bad_group_count.Tie as tie
-use Rattle.pps.proofs.picture.bad_group_count.Reads as reads
-use Rattle.pps.proofs.picture.bad_group_count.Lts as lts
 
 returns : tie.Need-returns
 unfolding badGroupCount

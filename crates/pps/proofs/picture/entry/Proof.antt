@@ -2,18 +2,11 @@ use Rattle.desk.specs.Numbers.{entryOf}
 use mathlib.Core.Bool.{true, false, _||_, Bool}
 use mathlib.Core.List.{[], _∷_}
 use lib.ListN.{length}
-use Rattle.pps.specs.Rule.{badPicture}
 use Rattle.pps.proofs.Entry.{entry-first, entry-then}
-use mathlib.Core.Path.{refl}
 use mathlib.Core.Path.{sym, _∙_, ap}
 use borrow.Author.Needs.{needs}
 use Rattle.pps.proofs.picture.entry.Statement.{statement}
 use Rattle.pps.proofs.picture.entry.Tie as tie
-use Rattle.pps.proofs.picture.entry.Reads as reads
-use Rattle.pps.proofs.picture.entry.Lts as lts
-use Rattle.bits.proofs.BitReader.past_end.Reads as past-end-reads
-use Rattle.desk.proofs.entry.Reads as entry-reads
-use Rattle.pps.proofs.Geometry.bad.Reads as bad-reads
 
 past-end-requires : tie.Need-past-end-requires
 past-end-requires c κs = search needs

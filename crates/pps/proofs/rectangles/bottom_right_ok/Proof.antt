@@ -2,8 +2,6 @@ use mathlib.Core.Path.{refl}
 use Rattle.pps.specs.Rule.{bottomRightOk}
 use Rattle.pps.proofs.rectangles.bottom_right_ok.Statement.{statement}
 use Rattle.pps.proofs.rectangles.bottom_right_ok.Tie as tie
-use Rattle.pps.proofs.rectangles.bottom_right_ok.Reads as reads
-use Rattle.pps.proofs.rectangles.bottom_right_ok.Lts as lts
 
 returns : tie.Need-returns
 unfolding bottomRightOk

@@ -1,4 +1,4 @@
-use mathlib.Core.Path.{_≡_, refl, sym, ap, _∙_}
+use mathlib.Core.Path.{refl, sym, ap, _∙_}
 use borrow.Author.Tests.{lt-ltb, le-ltb, not-true, not-false}
 use Rattle.bits.specs.Reading.{answer, number}
 use Rattle.bits.specs.declared.Bits.{Bits}
@@ -6,11 +6,6 @@ use Rattle.pps.specs.Rule.{rectangle}
 use borrow.Author.Needs.{needs}
 use Rattle.pps.proofs.rectangles.rectangle.Statement.{statement}
 use Rattle.pps.proofs.rectangles.rectangle.Tie as tie
-use Rattle.pps.proofs.rectangles.rectangle.Reads as reads
-use Rattle.pps.proofs.rectangles.rectangle.Lts as lts
-use Rattle.bits.proofs.BitReader.read_ue.Reads as read-ue-reads
-use Rattle.bits.proofs.Bits.number.Reads as number-reads
-use Rattle.pps.proofs.rectangles.bottom_right_ok.Reads as bottom-right-ok-reads
 
 read-ue-requires : tie.Need-read-ue-requires
 read-ue-requires c κs = search needs

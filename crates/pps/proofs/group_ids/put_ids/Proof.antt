@@ -1,7 +1,6 @@
-use mathlib.Core.Path.{_≡_, refl, sym, ap, _∙_}
-use Prim.Native.Nat.{ℕ, _+_, _-_, _≤_, _<_, _^_}
+use mathlib.Core.Path.{sym, ap, _∙_}
+use Prim.Native.Nat.{_-_}
 use native.Mathlib.Omega.{arith}
-use lib.ListN.{length}
 use lib.Pow.{pow-mono}
 use Rattle.bits.specs.Reading.{answer, readBits}
 use Rattle.bits.proofs.Reading.{bits-codes}
@@ -9,11 +8,8 @@ use Rattle.pps.specs.Step.{RowSo}
 use Rattle.pps.proofs.Rows.{row-first, row-more, row-stops}
 use Rattle.pps.proofs.Ids.{ids-there, ids-put}
 use borrow.Author.Needs.{needs}
-use Rattle.pps.proofs.groups.put_ids.Statement.{statement}
-use Rattle.pps.proofs.groups.put_ids.Tie as tie
-use Rattle.pps.proofs.groups.put_ids.Reads as reads
-use Rattle.pps.proofs.groups.put_ids.Lts as lts
-use Rattle.bits.proofs.BitReader.read.Reads as read-reads
+use Rattle.pps.proofs.group_ids.put_ids.Statement.{statement}
+use Rattle.pps.proofs.group_ids.put_ids.Tie as tie
 
 abbrev Inv-loop : tie.InvT-loop
 Inv-loop s count width ids₀ at₀ i₀ ids at i = RowSo (λ s p. readBits s p width) s count (at₀ .at .0) ids₀ i ids (at .at .0)

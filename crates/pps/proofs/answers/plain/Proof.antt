@@ -3,12 +3,8 @@ use mathlib.Core.List.{List}
 use Rattle.pps.specs.declared.SliceRect.{SliceRect}
 use Rattle.pps.specs.Answer.{whole, noRuns}
 use borrow.Author.Needs.{needs}
-use Rattle.pps.proofs.groups.plain.Statement.{statement}
-use Rattle.pps.proofs.groups.plain.Tie as tie
-use Rattle.pps.proofs.groups.plain.Reads as reads
-use Rattle.pps.proofs.groups.plain.Lts as lts
-use Rattle.pps.proofs.groups.given.Reads as given-reads
-use Rattle.pps.proofs.groups.no_rectangles.Reads as no-rectangles-reads
+use Rattle.pps.proofs.answers.plain.Statement.{statement}
+use Rattle.pps.proofs.answers.plain.Tie as tie
 
 no-rectangles-requires : tie.Need-no-rectangles-requires
 no-rectangles-requires c κs = search needs

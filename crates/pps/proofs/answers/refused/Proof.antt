@@ -1,10 +1,7 @@
 use mathlib.Core.Path.{refl}
 use borrow.Author.Needs.{needs}
-use Rattle.pps.proofs.groups.refused.Statement.{statement}
-use Rattle.pps.proofs.groups.refused.Tie as tie
-use Rattle.pps.proofs.groups.refused.Reads as reads
-use Rattle.pps.proofs.groups.refused.Lts as lts
-use Rattle.pps.proofs.groups.no_rectangles.Reads as no-rectangles-reads
+use Rattle.pps.proofs.answers.refused.Statement.{statement}
+use Rattle.pps.proofs.answers.refused.Tie as tie
 
 no-rectangles-requires : tie.Need-no-rectangles-requires
 no-rectangles-requires c κs = search needs
