@@ -6,8 +6,6 @@ use mathlib.Core.List.{List, [], _∷_}
 use mathlib.Core.Option.{Option}
 use lib.IntN.{ℤ, pos}
 use Rattle.desk.specs.Numbers.{done}
-use Rattle.bits.specs.declared.BitPos.{BitPos}
-use Rattle.bits.specs.declared.BytePos.{BytePos}
 use Rattle.bits.specs.declared.BitReader.{BitReader}
 use Rattle.bits.specs.declared.Bits.{Bits}
 use Rattle.bits.specs.declared.Bits.the-variants.{Value, Refused}

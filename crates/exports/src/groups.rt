@@ -1,6 +1,5 @@
 // Slice groups: the calls of `pps`.
 ghost use mathlib.Core.Path.{_≡_};
-ghost use Rattle.bits.specs.Reading.{Reads};
 ghost use Rattle.pps.specs.Rule.{numRefIdx};
 ghost use Rattle.pps.specs.Answer.{rectOf};
 ghost use Rattle.exports.specs.Bits.{readerAt, FrontsBits};
