@@ -63,17 +63,25 @@ pub fn place(s: &[u8], mut reader: BitReader<Pieces<'_>>) -> usize {
     8 * (s.len() - reader.into_reader().rest.len()) - ahead
 }
 
-pub fn original(s: &[u8], at: usize, piece: usize, call: Call) -> Answer {
-    let mut reader = reader_at(s, at, piece);
-    let value = match call {
+/// A call that leaves the reader to be asked again.
+fn ask<R: std::io::BufRead + Clone>(reader: &mut BitReader<R>, call: Call) -> Result<i64, BitReaderError> {
+    match call {
         Call::Read(width) => reader.read_var::<u32>(width, "").map(i64::from),
         Call::ReadBit => reader.read_bit("").map(i64::from),
         Call::ReadUe => reader.read_ue("").map(i64::from),
         Call::ReadSe => reader.read_se("").map(i64::from),
         Call::Skip(n) => reader.skip(n, "").map(|()| 0),
         Call::HasMore => reader.has_more_rbsp_data("").map(i64::from),
+        Call::FinishRbsp | Call::FinishSei => unreachable!("these take the reader"),
+    }
+}
+
+pub fn original(s: &[u8], at: usize, piece: usize, call: Call) -> Answer {
+    let mut reader = reader_at(s, at, piece);
+    let value = match call {
         Call::FinishRbsp => return (reader.finish_rbsp().map_or_else(|e| number(&e), |()| 0), 0, at),
         Call::FinishSei => return (reader.finish_sei_payload().map_or_else(|e| number(&e), |()| 0), 0, at),
+        other => ask(&mut reader, other),
     };
     match value {
         Ok(v) => (0, v, place(s, reader)),
@@ -190,13 +198,8 @@ fn sequence(tally: &mut Tally, how: How, random: &mut Random, s: &[u8], calls: u
     for _ in 0..calls {
         let call = any_call(random);
         let value = match call {
-            Call::Read(width) => reader.read_var::<u32>(width, "").map(i64::from),
-            Call::ReadBit => reader.read_bit("").map(i64::from),
-            Call::ReadUe => reader.read_ue("").map(i64::from),
-            Call::ReadSe => reader.read_se("").map(i64::from),
-            Call::Skip(n) => reader.skip(n, "").map(|()| 0),
-            Call::HasMore => reader.has_more_rbsp_data("").map(i64::from),
             Call::FinishRbsp | Call::FinishSei => continue,
+            other => ask(&mut reader, other),
         };
         let expected = value.as_ref().map_or_else(number, |_| 0);
         let answer = port(s, at, call);
