@@ -1,8 +1,10 @@
+//! Escaping (Rec 7.3.1, 7.4.1) between slices.
 use crate::{raw, Error};
 use std::borrow::Cow;
+use std::num::NonZeroUsize;
 
 /// What a push did. Where the room is too short, bytes of the chunk are left: push them again, into more room.
-#[derive(Clone, Copy, Debug, PartialEq, Eq)]
+#[derive(Clone, Copy, Debug, PartialEq, Eq, Hash)]
 pub struct Pushed {
     /// bytes of the chunk that were taken
     pub taken: usize,
@@ -12,7 +14,18 @@ pub struct Pushed {
     pub forbidden: bool,
 }
 
-/// Removes the emulation prevention bytes from NAL bytes, a push at a time.
+/// Where a [`ByteReader`] stands between two pushes.
+#[derive(Clone, Copy, Debug, PartialEq, Eq, Hash)]
+pub enum ParseState {
+    /// behind so many zeros: 0, 1 or 2
+    Start(u8),
+    /// so many bytes are yet to be dropped unexamined
+    Skip(NonZeroUsize),
+    /// right behind a removed 03
+    PostThree,
+}
+
+/// Removes the emulation prevention bytes from NAL bytes, a push at a time. See [`UnescapingReader`](crate::UnescapingReader) for a [`std::io::Read`].
 ///
 /// ```
 /// use dampfeather::ByteReader;
@@ -27,11 +40,24 @@ pub struct Pushed {
 /// let pushed = ByteReader::without_skip().push(b"\x41\x00\x00\x01", &mut rbsp).unwrap();
 /// assert!(pushed.forbidden && pushed.taken == 3 && pushed.written == 3);
 /// ```
-#[derive(Clone, Debug, PartialEq, Eq)]
+///
+/// The state is plain data, to be kept anywhere and taken up again. Over 2 zeros are [`Error::BadState`] to every push.
+///
+/// ```
+/// use dampfeather::{ByteReader, Error, ParseState};
+///
+/// let mut reader = ByteReader::without_skip();
+/// reader.push(&[0x12, 0, 0], &mut [0; 3]).unwrap();
+/// let saved = reader.state;
+/// assert_eq!(saved, ParseState::Start(2));
+///
+/// let mut later = ByteReader { state: saved };
+/// assert!(later.push(&[1], &mut [0; 1]).unwrap().forbidden);
+/// assert_eq!(ByteReader { state: ParseState::Start(3) }.push(&[1], &mut [0; 1]), Err(Error::BadState));
+/// ```
+#[derive(Clone, Debug, PartialEq, Eq, Hash)]
 pub struct ByteReader {
-    zeros: u8,
-    skip: usize,
-    post_three: bool,
+    pub state: ParseState,
 }
 
 impl ByteReader {
@@ -44,30 +70,44 @@ impl ByteReader {
     }
 
     pub fn skipping_bytes(skip: usize) -> Self {
-        ByteReader { zeros: 0, skip, post_three: false }
+        ByteReader { state: NonZeroUsize::new(skip).map_or(ParseState::Start(0), ParseState::Skip) }
     }
 
     pub fn push(&mut self, chunk: &[u8], out: &mut [u8]) -> Result<Pushed, Error> {
-        let a = raw::byte_reader_push(self.zeros, self.skip, self.post_three, chunk, out);
+        let (zeros, skip, post_three) = match self.state {
+            ParseState::Start(zeros) => (zeros, 0, false),
+            ParseState::Skip(left) => (0, left.get(), false),
+            ParseState::PostThree => (0, 0, true),
+        };
+        let a = raw::byte_reader_push(zeros, skip, post_three, chunk, out);
         if a[0] != 7 {
             Error::check(a[0], 0)?;
         }
-        *self = ByteReader { zeros: a[3] as u8, skip: a[4] as usize, post_three: a[5] != 0 };
+        self.state = match (a[3], NonZeroUsize::new(a[4] as usize), a[5]) {
+            (_, _, 1) => ParseState::PostThree,
+            (_, Some(left), _) => ParseState::Skip(left),
+            (zeros, None, _) => ParseState::Start(zeros as u8),
+        };
         Ok(Pushed { taken: a[1] as usize, written: a[2] as usize, forbidden: a[0] == 7 })
     }
 }
 
-/// Inserts the emulation prevention bytes into an RBSP, a push at a time.
+/// Inserts the emulation prevention bytes into an RBSP, a push at a time. See [`EscapingWriter`](crate::EscapingWriter) for a [`std::io::Write`].
 ///
 /// ```
 /// let mut writer = dampfeather::ByteWriter::new();
 /// let mut nal = [0; 16];
 /// let pushed = writer.push(&[0; 5], &mut nal).unwrap();
 /// assert_eq!(&nal[..pushed.written], [0, 0, 3, 0, 0, 3, 0]);
+///
+/// // the state is plain data: a writer that stands behind two zeros
+/// let pushed = dampfeather::ByteWriter { zero_count: 2 }.push(&[1], &mut nal).unwrap();
+/// assert_eq!(&nal[..pushed.written], [3, 1]);
 /// ```
-#[derive(Clone, Debug, Default, PartialEq, Eq)]
+#[derive(Clone, Debug, Default, PartialEq, Eq, Hash)]
 pub struct ByteWriter {
-    zero_count: u8,
+    /// zeros at the end of what was written, since the last inserted 03: 0, 1 or 2. More are [`Error::BadState`] to every push.
+    pub zero_count: u8,
 }
 
 impl ByteWriter {
@@ -97,16 +137,16 @@ impl ByteWriter {
 /// assert_eq!(decode_nal(b""), Err(Error::EmptyNal));
 /// ```
 pub fn decode_nal(nal: &[u8]) -> Result<Cow<'_, [u8]>, Error> {
-    // where nothing is removed no room is needed: ask that first
+    // No room at first: where nothing is removed none is needed. Where something is, two zeros before it are kept, so that the answer is number 10.
     let a = raw::decode_nal(nal, &mut []);
     if a[0] != 10 {
         Error::check(a[0], a[2] as usize)?;
-        return Ok(if a[1] == 0 { Cow::Borrowed(&nal[1..]) } else { Cow::Owned(Vec::new()) });
+        return Ok(Cow::Borrowed(&nal[1..]));
     }
+    // The NAL was looked through and is well. The library would do so again before it fills by this very push.
     let mut room = vec![0; nal.len()];
-    let a = raw::decode_nal(nal, &mut room);
-    Error::check(a[0], a[2] as usize)?;
-    room.truncate(a[2] as usize);
+    let pushed = ByteReader::skipping_h264_header().push(nal, &mut room)?;
+    room.truncate(pushed.written);
     Ok(Cow::Owned(room))
 }
 

@@ -16,12 +16,21 @@
 mod bits;
 mod error;
 mod escaping;
+mod escaping_writer;
 mod framing;
 mod groups;
 pub mod raw;
+mod unescaping_reader;
+mod units;
 
-pub use bits::{golomb_to_signed, BitReader, BitWriter};
+pub use bits::{golomb_to_signed, BitReader, BitWriter, BitWriterState};
 pub use error::Error;
-pub use escaping::{decode_nal, decode_nal_into, ByteReader, ByteWriter, Pushed};
-pub use framing::{units, AnnexBReader, Framed, Units};
+pub use escaping::{decode_nal, decode_nal_into, ByteReader, ByteWriter, ParseState, Pushed};
+pub use escaping_writer::EscapingWriter;
+pub use framing::{AnnexBReader, Framed};
 pub use groups::{read_num_ref_idx, Geometry, SliceGroup, SliceGroupChangeType, SliceRect};
+pub use unescaping_reader::UnescapingReader;
+pub use units::{units, Units};
+
+/// The most elements of a slice that is handed to the library: one of more is [`Error::TooLong`]. Streams may be of any length.
+pub const MOST: usize = 16_777_216;
