@@ -1,7 +1,7 @@
 //! Finds libexports.a, or builds it, and tells the linker.
 //!
-//! It is taken from the folder that DAMPFEATHER_LIB names. Where that is not set, it is the repository's own: `rt` builds it where it is missing or older than
-//! the code that it is made from.
+//! It is taken from the folder that DAMPFEATHER_LIB names. Where that is not set, it is the repository's own: `rt` builds it where it is missing or
+//! older than the code that it is made from.
 use std::path::{Path, PathBuf};
 use std::process::Command;
 use std::time::SystemTime;
@@ -55,7 +55,8 @@ fn own(root: &Path) -> PathBuf {
     folder
 }
 
-/// When the code was last changed that the archive is made from: that of `exports` and of all that crates.txt says it depends on. Cargo watches it too.
+/// When the code was last changed that the archive is made from: that of `exports` and of all that crates.txt says it depends on. Cargo watches it
+/// too.
 fn changed(root: &Path) -> Option<SystemTime> {
     let list = std::fs::read_to_string(root.join("crates.txt")).unwrap_or_default();
     let mut names = vec!["exports"];

@@ -153,8 +153,8 @@ pub struct BitWriter<'a> {
     state: BitWriterState,
 }
 
-/// Where a [`BitWriter`] stands between two writes. Bytes past the room, a count over 7 and pending bits of more than their count are [`Error::BadState`]
-/// to every write.
+/// Where a [`BitWriter`] stands between two writes. Bytes past the room, a count over 7 and pending bits of more than their count are
+/// [`Error::BadState`] to every write.
 #[derive(Clone, Copy, Debug, Default, PartialEq, Eq, Hash)]
 pub struct BitWriterState {
     /// whole bytes of the room

@@ -25,7 +25,8 @@ pub enum Error {
     ExpGolombTooLarge,
     /// 6: data is left where none should be
     RemainingData,
-    /// 7: a forbidden byte, with its index from 0: in the slice handed in, or in all that [`UnescapingReader`](crate::UnescapingReader) took of its source
+    /// 7: a forbidden byte, with its index from 0: in the slice handed in, or in all that [`UnescapingReader`](crate::UnescapingReader) took of its
+    /// source
     ForbiddenByte(usize),
     /// 8: an empty NAL
     EmptyNal,

@@ -25,7 +25,8 @@ pub enum ParseState {
     PostThree,
 }
 
-/// Removes the emulation prevention bytes from NAL bytes, a push at a time. See [`UnescapingReader`](crate::UnescapingReader) for a [`std::io::Read`].
+/// Removes the emulation prevention bytes from NAL bytes, a push at a time. See [`UnescapingReader`](crate::UnescapingReader) for a
+/// [`std::io::Read`].
 ///
 /// ```
 /// use dampfeather::ByteReader;
@@ -137,16 +138,14 @@ impl ByteWriter {
 /// assert_eq!(decode_nal(b""), Err(Error::EmptyNal));
 /// ```
 pub fn decode_nal(nal: &[u8]) -> Result<Cow<'_, [u8]>, Error> {
-    // No room at first: where nothing is removed none is needed. Where something is, two zeros before it are kept, so that the answer is number 10.
-    let a = raw::decode_nal(nal, &mut []);
-    if a[0] != 10 {
-        Error::check(a[0], a[2] as usize)?;
+    // asked once, with room for whatever is kept
+    let mut room = vec![0; nal.len()];
+    let a = raw::decode_nal(nal, &mut room);
+    Error::check(a[0], a[2] as usize)?;
+    if a[1] == 0 {
         return Ok(Cow::Borrowed(&nal[1..]));
     }
-    // The NAL was looked through and is well. The library would do so again before it fills by this very push.
-    let mut room = vec![0; nal.len()];
-    let pushed = ByteReader::skipping_h264_header().push(nal, &mut room)?;
-    room.truncate(pushed.written);
+    room.truncate(a[2] as usize);
     Ok(Cow::Owned(room))
 }
 

@@ -21,10 +21,10 @@ const ROOM: usize = 64 * 1024;
 /// # Ok::<(), std::io::Error>(())
 /// ```
 ///
-/// `write` answers how many bytes it took: those are escaped and held, and go on in one piece with others when the buffer is full, or by `flush`. The writer
-/// behind may take any part of a piece, or fail: what it took is not given to it again, and the rest waits. A `write` that fails took nothing. So who calls
-/// `write` or `flush` again goes on where it was; `Interrupted` is not told. (After a failed `write_all` nobody knows how much of its bytes was taken:
-/// that is so with every writer.)
+/// `write` answers how many bytes it took: those are escaped and held, and go on in one piece with others when the buffer is full, or by `flush`.
+/// The writer behind may take any part of a piece, or fail: what it took is not given to it again, and the rest waits. A `write` that fails took
+/// nothing. So who calls `write` or `flush` again goes on where it was; `Interrupted` is not told. (After a failed `write_all` nobody knows how
+/// much of its bytes was taken: that is so with every writer.)
 ///
 /// Dropping it writes what is held, but cannot tell a failure, and does not flush the writer behind: call `flush` before.
 pub struct EscapingWriter<W: Write> {

@@ -9,8 +9,8 @@ use std::io::{self, BufRead, Read};
 /// reads again goes on where it was; `Interrupted` is not told.
 ///
 /// A forbidden byte (Rec 7.4.1) is told, after all before it was delivered, as an [`io::Error`] of the kind `InvalidData` that carries
-/// [`Error::ForbiddenByte`]. Its index is the count of bytes consumed of the source since this reader was made, dropped ones too: in a NAL the index that
-/// [`decode_nal`](crate::decode_nal) tells. It is not consumed, so that each further read tells it again.
+/// [`Error::ForbiddenByte`]. Its index is the count of bytes consumed of the source since this reader was made, dropped ones too: in a NAL the
+/// index that [`decode_nal`](crate::decode_nal) tells. It is not consumed, so that each further read tells it again.
 ///
 /// ```
 /// use dampfeather::{Error, UnescapingReader};

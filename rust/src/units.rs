@@ -36,9 +36,9 @@ pub struct Units<R> {
 /// assert_eq!(units, [[0x68, 0x80], [0x41, 0x9A]]);
 /// ```
 ///
-/// [`next_unit`](Units::next_unit) lends the bytes instead. Nothing is lost by an error of the stream, such as that of a socket that would block or timed out:
-/// it is told once the units before it are given, and who asks again goes on where it was. `Interrupted` is not told. After the stream's end there is `None`
-/// for ever.
+/// [`next_unit`](Units::next_unit) lends the bytes instead. Nothing is lost by an error of the stream, such as that of a socket that would block or
+/// timed out: it is told once the units before it are given, and who asks again goes on where it was. `Interrupted` is not told. After the stream's
+/// end there is `None` for ever.
 ///
 /// A unit is held whole in memory, and may be of any length. To limit that, use [`AnnexBReader`].
 pub fn units<R: Read>(stream: R) -> Units<R> {
@@ -108,7 +108,8 @@ impl<R: Read> Units<R> {
         Ok(Some(&self.room[unit]))
     }
 
-    /// No unit waits: one more call of the reader, on what was read, or at the end. What was read stays until it is taken, so that an error loses nothing.
+    /// No unit waits: one more call of the reader, on what was read, or at the end. What was read stays until it is taken, so that an error loses
+    /// nothing.
     fn advance(&mut self) -> io::Result<()> {
         if self.taken == self.read {
             match self.stream.read(&mut self.chunk) {

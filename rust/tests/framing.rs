@@ -3,7 +3,8 @@ mod common;
 use common::{framed, places, STREAMS};
 use dampfeather::{AnnexBReader, Error, MOST};
 
-/// The units of the chunks, pushed one after another into rooms of that size, and closed by a reset. The reader is made anew from its numbers before every call.
+/// The units of the chunks, pushed one after another into rooms of that size, and closed by a reset. The reader is made anew from its numbers
+/// before every call.
 fn pushed(chunks: &[&[u8]], room: usize, marks: usize) -> Vec<Vec<u8>> {
     let (mut units, mut open) = (Vec::new(), Vec::new());
     let mut take = |bytes: &[u8], marks: &[u64]| {

@@ -119,8 +119,8 @@ pub fn escaped(rbsp: &[u8]) -> Vec<u8> {
     nal
 }
 
-/// Streams whose every cut tells something: start codes of three and four bytes, empty units, zeros at the end of units and of the stream, bytes before the
-/// first start code, escaped zeros.
+/// Streams whose every cut tells something: start codes of three and four bytes, empty units, zeros at the end of units and of the stream, bytes
+/// before the first start code, escaped zeros.
 pub const STREAMS: [&[u8]; 9] = [
     b"",
     b"\x00\x00",
