@@ -115,3 +115,23 @@ impl<W: Write> Drop for EscapingWriter<W> {
         }
     }
 }
+
+#[cfg(test)]
+mod tests {
+    use super::EscapingWriter;
+    use crate::ByteWriter;
+    use std::io::Write;
+
+    /// The library refuses nothing that is asked here. If it did, nothing would be taken.
+    #[test]
+    fn a_refusal_takes_nothing() {
+        let mut writer = EscapingWriter::new(Vec::new());
+        writer.write_all(b"\x00\x00").unwrap();
+        let state = std::mem::replace(&mut writer.writer, ByteWriter { zero_count: 3 });
+        assert!(writer.write(b"\x01").is_err());
+        writer.writer = state;
+        writer.write_all(b"\x02").unwrap();
+        writer.flush().unwrap();
+        assert_eq!(writer.into_parts().0, b"\x00\x00\x03\x02");
+    }
+}

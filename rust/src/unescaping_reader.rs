@@ -86,3 +86,22 @@ impl<R: BufRead> Read for UnescapingReader<R> {
         }
     }
 }
+
+#[cfg(test)]
+mod tests {
+    use super::UnescapingReader;
+    use crate::{ByteReader, ParseState};
+    use std::io::Read;
+
+    /// The library refuses nothing that is asked here but a forbidden byte. If it did, the source would be as it was.
+    #[test]
+    fn a_refusal_loses_nothing() {
+        let mut reader = UnescapingReader::without_skip(&b"\x12\x00\x00\x03\x01"[..]);
+        reader.reader = ByteReader { state: ParseState::Start(3) };
+        assert!(reader.read(&mut [0; 8]).is_err());
+        reader.reader = ByteReader::without_skip();
+        let mut rbsp = Vec::new();
+        reader.read_to_end(&mut rbsp).unwrap();
+        assert_eq!(rbsp, b"\x12\x00\x00\x01");
+    }
+}

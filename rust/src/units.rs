@@ -153,3 +153,26 @@ impl<R: Read> Iterator for Units<R> {
 }
 
 impl<R: Read> std::iter::FusedIterator for Units<R> {}
+
+#[cfg(test)]
+mod tests {
+    use super::units;
+    use crate::{AnnexBReader, Error};
+
+    /// The library refuses nothing that is asked here. If it did, what was read would wait.
+    #[test]
+    fn a_refusal_loses_nothing() {
+        let mut units = units(&b"\x00\x00\x01\x68\x42\x00\x00\x01\x41"[..]);
+        for _ in 0..2 {
+            units.reader = AnnexBReader { in_unit: false, zeros: 3 };
+            assert_eq!(units.next_unit().unwrap_err().downcast::<Error>().unwrap(), Error::BadState);
+        }
+        units.reader = AnnexBReader::new();
+        assert_eq!(units.next_unit().unwrap(), Some(&b"\x68\x42"[..]));
+        let open = std::mem::replace(&mut units.reader, AnnexBReader { in_unit: true, zeros: 3 });
+        assert!(units.next_unit().is_err(), "at the end too");
+        units.reader = open;
+        assert_eq!(units.next_unit().unwrap(), Some(&b"\x41"[..]));
+        assert_eq!(units.next_unit().unwrap(), None);
+    }
+}

@@ -18,8 +18,9 @@ fn strings(most: usize) -> Vec<Vec<u8>> {
 
 /// What is delivered of a NAL, and the index of a forbidden byte (Rec 7.4.1), read from the whole NAL.
 fn unescaped(nal: &[u8], skip: usize) -> (Vec<u8>, Option<usize>) {
-    let (mut rbsp, mut since) = (Vec::new(), skip.min(nal.len()));
-    for i in since..nal.len() {
+    // since where zeros count: behind the skipped bytes, or behind the last removed 03
+    let (mut rbsp, mut since) = (Vec::new(), skip);
+    for i in skip..nal.len() {
         let removed = i == since && i > skip;
         let two_zeros = i >= since + 2 && nal[i - 2..i] == [0, 0];
         match nal[i] {
