@@ -48,6 +48,7 @@ fn reading_under_every_cut() {
                             reader = ByteReader { state: reader.state };
                             let mut out = vec![0xAA; room];
                             let pushed = reader.push(&nal[taken..until], &mut out).unwrap();
+                            assert!(pushed.taken > 0 || pushed.forbidden, "room for one takes a byte");
                             assert!(out[pushed.written..].iter().all(|&b| b == 0xAA));
                             got.extend(&out[..pushed.written]);
                             taken += pushed.taken;
