@@ -28,6 +28,7 @@ pub struct BitReader<'a> {
 }
 
 impl<'a> BitReader<'a> {
+    /// From the first bit on.
     pub fn new(bytes: &'a [u8]) -> Self {
         BitReader { bytes, at: 0 }
     }
@@ -37,6 +38,7 @@ impl<'a> BitReader<'a> {
         BitReader { bytes, at }
     }
 
+    /// The bytes that it reads, all of them.
     pub fn bytes(&self) -> &'a [u8] {
         self.bytes
     }
@@ -58,47 +60,52 @@ impl<'a> BitReader<'a> {
         Ok(())
     }
 
-    /// u(width), of 0 to 32 bits.
+    /// u(width), of 0 to 32 bits. [`Error::BadWidth`] of more.
     pub fn read(&mut self, width: u32) -> Result<u32, Error> {
         self.value(raw::read(self.at, self.bytes, width))
     }
 
+    /// One bit.
     pub fn read_bit(&mut self) -> Result<bool, Error> {
         self.value(raw::read_bit(self.at, self.bytes)).map(|v| v == 1)
     }
 
+    /// ue(v). [`Error::ExpGolombTooLarge`] where over 31 zeros stand before a one, [`Error::BitsRunOut`] where no one follows at all.
     pub fn read_ue(&mut self) -> Result<u32, Error> {
         self.value(raw::read_ue(self.at, self.bytes))
     }
 
+    /// se(v), refused as [`BitReader::read_ue`].
     pub fn read_se(&mut self) -> Result<i32, Error> {
         let (a, value) = raw::read_se(self.at, self.bytes);
         self.moved(a[0], a[1])?;
         Ok(value)
     }
 
+    /// Moves on by so many bits, if so many are left.
     pub fn skip(&mut self, bit_count: u32) -> Result<(), Error> {
         let a = raw::skip(self.at, self.bytes, bit_count);
         self.moved(a[0], a[1])
     }
 
+    /// Is this place the start of a byte?
     pub fn byte_aligned(&self) -> bool {
         raw::byte_aligned(self.at)
     }
 
-    /// Is this place before the trailing bits?
+    /// Is this place before the trailing bits: is there a one behind it?
     pub fn has_more_rbsp_data(&self) -> Result<bool, Error> {
         let a = raw::has_more_rbsp_data(self.at, self.bytes);
         Error::check(a[0], 0)?;
         Ok(a[1] == 1)
     }
 
-    /// Is this the place of the stop bit?
+    /// Is this the place of the stop bit, the last one? [`Error::RemainingData`] before it, [`Error::BitsRunOut`] behind it.
     pub fn finish_rbsp(self) -> Result<(), Error> {
         Error::check(raw::finish_rbsp(self.at, self.bytes).into(), 0)
     }
 
-    /// The same, or the end of the data.
+    /// Is this the place of the stop bit, or the end of the bytes? [`Error::RemainingData`] otherwise.
     pub fn finish_sei_payload(self) -> Result<(), Error> {
         Error::check(raw::finish_sei_payload(self.at, self.bytes).into(), 0)
     }
@@ -166,6 +173,7 @@ pub struct BitWriterState {
 }
 
 impl<'a> BitWriter<'a> {
+    /// From the front of a room on.
     pub fn new(out: &'a mut [u8]) -> Self {
         Self::from_state(out, BitWriterState::default())
     }
@@ -175,6 +183,7 @@ impl<'a> BitWriter<'a> {
         BitWriter { out, state }
     }
 
+    /// To go on from later: the whole bytes are those of the room.
     pub fn state(&self) -> BitWriterState {
         self.state
     }
@@ -184,6 +193,7 @@ impl<'a> BitWriter<'a> {
         self.out.get(..self.state.written).unwrap_or(&[])
     }
 
+    /// Is no bit pending?
     pub fn byte_aligned(&self) -> bool {
         let BitWriterState { written, pending, count } = self.state;
         raw::writer_byte_aligned(written, pending, count)
@@ -198,19 +208,22 @@ impl<'a> BitWriter<'a> {
         Ok(())
     }
 
-    /// u(width) of `value`.
+    /// u(width) of `value`. [`Error::BadWidth`] of over 32 bits, or of a value that needs more bits.
     pub fn write(&mut self, width: u32, value: u32) -> Result<(), Error> {
         self.put(|written, pending, count, out| raw::write(written, pending, count, out, width, value))
     }
 
+    /// One bit.
     pub fn write_bit(&mut self, bit: bool) -> Result<(), Error> {
         self.put(|written, pending, count, out| raw::write_bit(written, pending, count, out, bit))
     }
 
+    /// ue(v). `u32::MAX` is [`Error::NoCode`].
     pub fn write_ue(&mut self, value: u32) -> Result<(), Error> {
         self.put(|written, pending, count, out| raw::write_ue(written, pending, count, out, value))
     }
 
+    /// se(v). `i32::MIN` is [`Error::NoCode`].
     pub fn write_se(&mut self, value: i32) -> Result<(), Error> {
         self.put(|written, pending, count, out| raw::write_se(written, pending, count, out, value))
     }

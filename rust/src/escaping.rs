@@ -58,22 +58,27 @@ pub enum ParseState {
 /// ```
 #[derive(Clone, Debug, PartialEq, Eq, Hash)]
 pub struct ByteReader {
+    /// where it stands
     pub state: ParseState,
 }
 
 impl ByteReader {
+    /// Of NAL bytes behind the header.
     pub fn without_skip() -> Self {
         Self::skipping_bytes(0)
     }
 
+    /// Of a whole NAL: its first byte is dropped.
     pub fn skipping_h264_header() -> Self {
         Self::skipping_bytes(1)
     }
 
+    /// The first bytes are dropped, unexamined: 2 for the header of an H.265 NAL.
     pub fn skipping_bytes(skip: usize) -> Self {
         ByteReader { state: NonZeroUsize::new(skip).map_or(ParseState::Start(0), ParseState::Skip) }
     }
 
+    /// Takes bytes from the front of the chunk, while what the next one releases fits: room for 1 always takes one, unless it is forbidden.
     pub fn push(&mut self, chunk: &[u8], out: &mut [u8]) -> Result<Pushed, Error> {
         let (zeros, skip, post_three) = match self.state {
             ParseState::Start(zeros) => (zeros, 0, false),
@@ -112,10 +117,12 @@ pub struct ByteWriter {
 }
 
 impl ByteWriter {
+    /// Of the start of an RBSP.
     pub fn new() -> Self {
         Self::default()
     }
 
+    /// Takes bytes from the front of the chunk, while what the next one releases fits: room for 2 always takes one.
     pub fn push(&mut self, chunk: &[u8], out: &mut [u8]) -> Result<Pushed, Error> {
         let a = raw::byte_writer_push(self.zero_count, chunk, out);
         Error::check(a[0], 0)?;

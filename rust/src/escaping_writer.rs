@@ -40,6 +40,7 @@ pub struct EscapingWriter<W: Write> {
 }
 
 impl<W: Write> EscapingWriter<W> {
+    /// Of the start of an RBSP.
     pub fn new(inner: W) -> Self {
         EscapingWriter { inner: Some(inner), writer: ByteWriter::new(), room: vec![0; ROOM], start: 0, end: 0, calling: false }
     }

@@ -12,7 +12,7 @@ pub struct Framed {
     pub marks: usize,
 }
 
-/// Finds the units of an Annex B stream, a push at a time. A push that is lent 3 bytes and 1 mark takes at least one byte.
+/// Finds the units of an Annex B stream, a push at a time.
 /// See [`units()`](crate::units()) for the units of a [`std::io::Read`].
 ///
 /// ```
@@ -47,6 +47,7 @@ pub struct AnnexBReader {
 }
 
 impl AnnexBReader {
+    /// Of the start of a stream, or of any place in it: bytes before the next start code are dropped.
     pub fn new() -> Self {
         Self::default()
     }
@@ -57,11 +58,12 @@ impl AnnexBReader {
         Ok(Framed { taken: a[1] as usize, written: a[2] as usize, marks: a[3] as usize })
     }
 
+    /// Takes bytes from the front of the chunk, while what the next one releases fits: at most 3 bytes and 1 mark.
     pub fn push(&mut self, chunk: &[u8], room: &mut [u8], marks: &mut [u64]) -> Result<Framed, Error> {
         self.after(raw::annexb_push(self.in_unit, self.zeros, chunk, room, marks))
     }
 
-    /// Ends an open unit, and forgets all. Needs room for 2 bytes and 1 mark at most.
+    /// Ends an open unit, and forgets all. Needs room for 2 bytes and 1 mark at most: [`Error::NoRoom`] where what there is to give does not fit.
     pub fn reset(&mut self, room: &mut [u8], marks: &mut [u64]) -> Result<Framed, Error> {
         self.after(raw::annexb_reset(self.in_unit, self.zeros, room, marks))
     }

@@ -19,6 +19,8 @@
 //! * Of fields: [`BitReader`], [`BitWriter`], [`SliceGroup`].
 //!
 //! Readers and writers of slices are plain data, which can be kept and taken up again. [`raw`] has the exported functions themselves.
+#![warn(missing_docs)]
+
 mod bits;
 mod error;
 mod escaping;

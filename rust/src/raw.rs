@@ -171,6 +171,7 @@ pub fn finish_sei_payload(at: usize, s: &[u8]) -> u8 {
     unsafe { c::dampfeather_finish_sei_payload(at, s.as_ptr(), s.len()) }
 }
 
+/// Whether a byte starts at bit `at`.
 pub fn byte_aligned(at: usize) -> bool {
     unsafe { c::dampfeather_byte_aligned(at) }
 }
@@ -224,6 +225,7 @@ pub fn byte_of(at: usize) -> [u64; 2] {
     answer
 }
 
+/// Whether no bit is pending.
 pub fn writer_byte_aligned(written: usize, pending: u8, count: u8) -> bool {
     unsafe { c::dampfeather_writer_byte_aligned(written, pending, count) }
 }
@@ -249,11 +251,13 @@ pub struct Groups {
     pub answer: [u64; 4],
     /// map type, direction, rate, pic_size_in_map_units_minus1
     pub group: [u64; 4],
+    /// run_length_minus1 of each group
     pub runs: [u32; 8],
     /// top_left and bottom_right of each rectangle in turn
     pub rects: [u32; 14],
 }
 
+/// Slice groups from the map type on. Ids go into the lent bytes.
 pub fn read_slice_groups(at: usize, s: &[u8], num_slice_groups_minus1: u32, width: u32, size: u32, ids: &mut [u8]) -> Groups {
     let mut g = Groups::default();
     unsafe {

@@ -36,14 +36,17 @@ pub struct UnescapingReader<R> {
 }
 
 impl<R: BufRead> UnescapingReader<R> {
+    /// Of NAL bytes behind the header.
     pub fn without_skip(source: R) -> Self {
         Self::skipping_bytes(source, 0)
     }
 
+    /// Of a whole NAL: its first byte is dropped.
     pub fn skipping_h264_header(source: R) -> Self {
         Self::skipping_bytes(source, 1)
     }
 
+    /// The first bytes are dropped, unexamined: 2 for the header of an H.265 NAL.
     pub fn skipping_bytes(source: R, skip: usize) -> Self {
         UnescapingReader { source, reader: ByteReader::skipping_bytes(skip), consumed: 0 }
     }
