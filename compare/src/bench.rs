@@ -1,5 +1,7 @@
-//! Times the original and the port on the same inputs, in turns, in one process. The best of many turns counts, and what is printed is the ratio of times:
-//! below 1 the port is faster.
+//! Times the original and the port on the same inputs, in turns, in one process. The best of many turns counts, and what is printed is the ratio of
+//! times: below 1 the port is faster.
+mod recorder;
+
 use crate::make::Random;
 use dampfeather::raw;
 use h264_reader::annexb::AnnexBReader;
@@ -48,6 +50,17 @@ fn readable(rbsp: &[u8]) -> Vec<u8> {
     let mut nal = writer.into_writer();
     nal.truncate(SIZE);
     nal
+}
+
+/// The NAL bytes as units of 1.4 KB; cut to the size.
+fn in_units(nal: &[u8]) -> Vec<u8> {
+    let mut stream = Vec::with_capacity(2 * SIZE);
+    for unit in nal.chunks(1400) {
+        stream.extend([0, 0, 1]);
+        stream.extend(unit);
+    }
+    stream.truncate(SIZE);
+    stream
 }
 
 /// Copies what it is handed into a room.
@@ -117,13 +130,7 @@ fn bytes(turns: usize, random: &mut Random) {
             ],
         );
         print("escape", name, half.len(), times);
-        // units of 1.4 KB
-        let mut stream = Vec::with_capacity(SIZE);
-        for unit in nal.chunks(1400) {
-            stream.extend([0, 0, 1]);
-            stream.extend(unit);
-        }
-        stream.truncate(SIZE);
+        let stream = in_units(&nal);
         let mut marks = vec![0u64; SIZE / 8];
         let times = best(
             turns,
@@ -236,5 +243,6 @@ pub fn run(turns: usize) {
     let mut random = Random::new(1);
     println!("{:12} {:14} {:>10} {:>10} {:>8}", "call", "data", "orig MB/s", "port MB/s", "ratio");
     bytes(turns, &mut random);
+    recorder::run(turns, &mut random);
     reads(turns, &mut random);
 }

@@ -97,7 +97,7 @@ pub fn port(s: &[u8], at: usize, call: Call) -> Answer {
         Call::ReadBit => with_value(raw::read_bit(at, s)),
         Call::ReadUe => with_value(raw::read_ue(at, s)),
         Call::ReadSe => {
-            let (value, a) = raw::read_se(at, s);
+            let (a, value) = raw::read_se(at, s);
             (a[0], i64::from(value), a[1] as usize)
         }
         Call::Skip(n) => {

@@ -1,3 +1,4 @@
+//! Bits and Exp-Golomb codes (Rec 7.2, 9.1) of slices.
 use crate::{raw, Error};
 
 /// Reads the bits of an RBSP, highest first (Rec 7.2, 9.1). A read that is refused moves nothing.
@@ -18,22 +19,26 @@ use crate::{raw, Error};
 /// assert_eq!(reader.position(), 10);
 /// assert_eq!(reader.finish_rbsp(), Ok(()));
 /// ```
-#[derive(Clone, Debug, PartialEq, Eq)]
+///
+/// Its state is the position alone: [`BitReader::at`] goes on from one that was kept.
+#[derive(Clone, Debug, PartialEq, Eq, Hash)]
 pub struct BitReader<'a> {
     bytes: &'a [u8],
     at: usize,
 }
 
 impl<'a> BitReader<'a> {
+    /// From the first bit on.
     pub fn new(bytes: &'a [u8]) -> Self {
         BitReader { bytes, at: 0 }
     }
 
-    /// From that bit on. A place past the end is refused by every call.
+    /// From that bit on. A place past the end is [`Error::BadState`] to every call that reads.
     pub fn at(bytes: &'a [u8], at: usize) -> Self {
         BitReader { bytes, at }
     }
 
+    /// The bytes that it reads, all of them.
     pub fn bytes(&self) -> &'a [u8] {
         self.bytes
     }
@@ -55,47 +60,52 @@ impl<'a> BitReader<'a> {
         Ok(())
     }
 
-    /// u(width), of 0 to 32 bits.
+    /// u(width), of 0 to 32 bits. [`Error::BadWidth`] of more.
     pub fn read(&mut self, width: u32) -> Result<u32, Error> {
         self.value(raw::read(self.at, self.bytes, width))
     }
 
+    /// One bit.
     pub fn read_bit(&mut self) -> Result<bool, Error> {
         self.value(raw::read_bit(self.at, self.bytes)).map(|v| v == 1)
     }
 
+    /// ue(v). [`Error::ExpGolombTooLarge`] where over 31 zeros stand before a one, [`Error::BitsRunOut`] where no one follows at all.
     pub fn read_ue(&mut self) -> Result<u32, Error> {
         self.value(raw::read_ue(self.at, self.bytes))
     }
 
+    /// se(v), refused as [`BitReader::read_ue`].
     pub fn read_se(&mut self) -> Result<i32, Error> {
-        let (value, a) = raw::read_se(self.at, self.bytes);
+        let (a, value) = raw::read_se(self.at, self.bytes);
         self.moved(a[0], a[1])?;
         Ok(value)
     }
 
+    /// Moves on by so many bits, if so many are left.
     pub fn skip(&mut self, bit_count: u32) -> Result<(), Error> {
         let a = raw::skip(self.at, self.bytes, bit_count);
         self.moved(a[0], a[1])
     }
 
+    /// Is this place the start of a byte?
     pub fn byte_aligned(&self) -> bool {
         raw::byte_aligned(self.at)
     }
 
-    /// Is this place before the trailing bits?
+    /// Is this place before the trailing bits: is there a one behind it?
     pub fn has_more_rbsp_data(&self) -> Result<bool, Error> {
         let a = raw::has_more_rbsp_data(self.at, self.bytes);
         Error::check(a[0], 0)?;
         Ok(a[1] == 1)
     }
 
-    /// Is this the place of the stop bit?
+    /// Is this the place of the stop bit, the last one? [`Error::RemainingData`] before it, [`Error::BitsRunOut`] behind it.
     pub fn finish_rbsp(self) -> Result<(), Error> {
         Error::check(raw::finish_rbsp(self.at, self.bytes).into(), 0)
     }
 
-    /// The same, or the end of the data.
+    /// Is this the place of the stop bit, or the end of the bytes? [`Error::RemainingData`] otherwise.
     pub fn finish_sei_payload(self) -> Result<(), Error> {
         Error::check(raw::finish_sei_payload(self.at, self.bytes).into(), 0)
     }
@@ -127,58 +137,99 @@ pub fn golomb_to_signed(val: u32) -> Result<i32, Error> {
 /// writer.write_rbsp_trailing_bits().unwrap();
 /// assert_eq!(writer.written(), [0b1010_1101, 0b1100_0000]);
 /// ```
+///
+/// The state is plain data, to be kept anywhere and taken up again on the same room, or on a copy of it.
+///
+/// ```
+/// use dampfeather::{BitWriter, BitWriterState, Error};
+///
+/// let mut room = [0; 2];
+/// let mut writer = BitWriter::new(&mut room);
+/// writer.write(3, 5).unwrap();
+/// let saved = writer.state();
+/// assert_eq!(saved, BitWriterState { written: 0, pending: 5, count: 3 });
+///
+/// let mut later = BitWriter::from_state(&mut room, saved);
+/// later.write(5, 1).unwrap();
+/// assert_eq!(later.written(), [0b1010_0001]);
+/// assert_eq!(BitWriter::from_state(&mut room, BitWriterState { count: 8, ..saved }).write_bit(true), Err(Error::BadState));
+/// ```
 #[derive(Debug)]
 pub struct BitWriter<'a> {
     out: &'a mut [u8],
-    written: usize,
-    pending: u8,
-    count: u8,
+    state: BitWriterState,
+}
+
+/// Where a [`BitWriter`] stands between two writes. Bytes past the room, a count over 7 and pending bits of more than their count are
+/// [`Error::BadState`] to every write.
+#[derive(Clone, Copy, Debug, Default, PartialEq, Eq, Hash)]
+pub struct BitWriterState {
+    /// whole bytes of the room
+    pub written: usize,
+    /// the bits behind them, as a number
+    pub pending: u8,
+    /// how many these are: 0 to 7
+    pub count: u8,
 }
 
 impl<'a> BitWriter<'a> {
+    /// From the front of a room on.
     pub fn new(out: &'a mut [u8]) -> Self {
-        BitWriter { out, written: 0, pending: 0, count: 0 }
+        Self::from_state(out, BitWriterState::default())
     }
 
-    /// The whole bytes. Up to seven bits behind them are pending.
+    /// Goes on in a room whose first bytes were written before.
+    pub fn from_state(out: &'a mut [u8], state: BitWriterState) -> Self {
+        BitWriter { out, state }
+    }
+
+    /// To go on from later: the whole bytes are those of the room.
+    pub fn state(&self) -> BitWriterState {
+        self.state
+    }
+
+    /// The whole bytes. Up to seven bits behind them are pending. Of a bad state, whose bytes pass the room, there are none.
     pub fn written(&self) -> &[u8] {
-        &self.out[..self.written]
+        self.out.get(..self.state.written).unwrap_or(&[])
     }
 
+    /// Is no bit pending?
     pub fn byte_aligned(&self) -> bool {
-        raw::writer_byte_aligned(self.written, self.pending, self.count)
+        let BitWriterState { written, pending, count } = self.state;
+        raw::writer_byte_aligned(written, pending, count)
     }
 
-    fn after(&mut self, a: [u64; 4]) -> Result<(), Error> {
+    /// One write, by an exported function that is lent the state and the room.
+    fn put(&mut self, write: impl FnOnce(usize, u8, u8, &mut [u8]) -> [u64; 4]) -> Result<(), Error> {
+        let BitWriterState { written, pending, count } = self.state;
+        let a = write(written, pending, count, self.out);
         Error::check(a[0], 0)?;
-        (self.written, self.pending, self.count) = (a[1] as usize, a[2] as u8, a[3] as u8);
+        self.state = BitWriterState { written: a[1] as usize, pending: a[2] as u8, count: a[3] as u8 };
         Ok(())
     }
 
-    /// u(width) of `value`.
+    /// u(width) of `value`. [`Error::BadWidth`] of over 32 bits, or of a value that needs more bits.
     pub fn write(&mut self, width: u32, value: u32) -> Result<(), Error> {
-        let a = raw::write(self.written, self.pending, self.count, self.out, width, value);
-        self.after(a)
+        self.put(|written, pending, count, out| raw::write(written, pending, count, out, width, value))
     }
 
+    /// One bit.
     pub fn write_bit(&mut self, bit: bool) -> Result<(), Error> {
-        let a = raw::write_bit(self.written, self.pending, self.count, self.out, bit);
-        self.after(a)
+        self.put(|written, pending, count, out| raw::write_bit(written, pending, count, out, bit))
     }
 
+    /// ue(v). `u32::MAX` is [`Error::NoCode`].
     pub fn write_ue(&mut self, value: u32) -> Result<(), Error> {
-        let a = raw::write_ue(self.written, self.pending, self.count, self.out, value);
-        self.after(a)
+        self.put(|written, pending, count, out| raw::write_ue(written, pending, count, out, value))
     }
 
+    /// se(v). `i32::MIN` is [`Error::NoCode`].
     pub fn write_se(&mut self, value: i32) -> Result<(), Error> {
-        let a = raw::write_se(self.written, self.pending, self.count, self.out, value);
-        self.after(a)
+        self.put(|written, pending, count, out| raw::write_se(written, pending, count, out, value))
     }
 
     /// A one, then zeros to the byte boundary.
     pub fn write_rbsp_trailing_bits(&mut self) -> Result<(), Error> {
-        let a = raw::write_rbsp_trailing_bits(self.written, self.pending, self.count, self.out);
-        self.after(a)
+        self.put(raw::write_rbsp_trailing_bits)
     }
 }

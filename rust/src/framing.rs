@@ -1,9 +1,8 @@
+//! Units out of a byte stream (Rec Annex B), between slices.
 use crate::{raw, Error};
-use std::collections::VecDeque;
-use std::io::Read;
 
 /// What a call handed out.
-#[derive(Clone, Copy, Debug, PartialEq, Eq)]
+#[derive(Clone, Copy, Debug, PartialEq, Eq, Hash)]
 pub struct Framed {
     /// bytes of the chunk that were taken
     pub taken: usize,
@@ -13,7 +12,8 @@ pub struct Framed {
     pub marks: usize,
 }
 
-/// Finds the units of an Annex B stream, a push at a time. A push that is lent 3 bytes and 1 mark takes at least one byte.
+/// Finds the units of an Annex B stream, a push at a time.
+/// See [`units()`](crate::units()) for the units of a [`std::io::Read`].
 ///
 /// ```
 /// use dampfeather::AnnexBReader;
@@ -27,13 +27,27 @@ pub struct Framed {
 /// let framed = reader.reset(&mut bytes, &mut marks).unwrap();
 /// assert_eq!((&bytes[..framed.written], &marks[..framed.marks]), (&[0][..], &[1][..]));
 /// ```
-#[derive(Clone, Debug, Default, PartialEq, Eq)]
+///
+/// The state is plain data, to be kept anywhere and taken up again.
+///
+/// ```
+/// use dampfeather::{AnnexBReader, Error};
+///
+/// let mut later = AnnexBReader { in_unit: true, zeros: 2 };
+/// let (mut bytes, mut marks) = ([0; 3], [0; 1]);
+/// assert_eq!(later.push(b"\x01", &mut bytes, &mut marks).unwrap().marks, 1);
+/// assert_eq!(AnnexBReader { in_unit: true, zeros: 3 }.push(b"\x01", &mut bytes, &mut marks), Err(Error::BadState));
+/// ```
+#[derive(Clone, Debug, Default, PartialEq, Eq, Hash)]
 pub struct AnnexBReader {
-    in_unit: bool,
-    zeros: u8,
+    /// a unit is open
+    pub in_unit: bool,
+    /// zeros that the next byte decides on: 0, 1 or 2. More are [`Error::BadState`] to every call.
+    pub zeros: u8,
 }
 
 impl AnnexBReader {
+    /// Of the start of a stream, or of any place in it: bytes before the next start code are dropped.
     pub fn new() -> Self {
         Self::default()
     }
@@ -44,94 +58,13 @@ impl AnnexBReader {
         Ok(Framed { taken: a[1] as usize, written: a[2] as usize, marks: a[3] as usize })
     }
 
+    /// Takes bytes from the front of the chunk, while what the next one releases fits: at most 3 bytes and 1 mark.
     pub fn push(&mut self, chunk: &[u8], room: &mut [u8], marks: &mut [u64]) -> Result<Framed, Error> {
         self.after(raw::annexb_push(self.in_unit, self.zeros, chunk, room, marks))
     }
 
-    /// Ends an open unit, and forgets all. Needs room for 2 bytes and 1 mark at most.
+    /// Ends an open unit, and forgets all. Needs room for 2 bytes and 1 mark at most: [`Error::NoRoom`] where what there is to give does not fit.
     pub fn reset(&mut self, room: &mut [u8], marks: &mut [u64]) -> Result<Framed, Error> {
         self.after(raw::annexb_reset(self.in_unit, self.zeros, room, marks))
-    }
-}
-
-/// The units of a stream: see [`units`].
-pub struct Units<R> {
-    stream: R,
-    reader: AnnexBReader,
-    /// the bytes of the unit that is open
-    open: Vec<u8>,
-    ready: VecDeque<Vec<u8>>,
-    ended: bool,
-}
-
-/// The units of an Annex B stream, each as its bytes, empty ones too. The last one is ended by the end of the stream.
-///
-/// ```
-/// let stream = b"\x00\x00\x01\x68\x80\x00\x00\x01\x41\x9A";
-/// let units: Vec<_> = dampfeather::units(&stream[..]).map(Result::unwrap).collect();
-/// assert_eq!(units, [[0x68, 0x80], [0x41, 0x9A]]);
-/// ```
-pub fn units<R: Read>(stream: R) -> Units<R> {
-    Units { stream, reader: AnnexBReader::new(), open: Vec::new(), ready: VecDeque::new(), ended: false }
-}
-
-impl<R> Units<R> {
-    fn handed(&mut self, bytes: &[u8], marks: &[u64]) {
-        let mut from = 0;
-        for &mark in marks {
-            self.open.extend_from_slice(&bytes[from..mark as usize]);
-            from = mark as usize;
-            self.ready.push_back(std::mem::take(&mut self.open));
-        }
-        self.open.extend_from_slice(&bytes[from..]);
-    }
-
-    fn push(&mut self, mut chunk: &[u8]) -> Result<(), Error> {
-        let mut bytes = [0; 4096];
-        let mut marks = [0; 64];
-        while !chunk.is_empty() {
-            let framed = self.reader.push(chunk, &mut bytes, &mut marks)?;
-            self.handed(&bytes[..framed.written], &marks[..framed.marks]);
-            chunk = &chunk[framed.taken..];
-        }
-        Ok(())
-    }
-
-    fn end(&mut self) -> Result<(), Error> {
-        let mut bytes = [0; 2];
-        let mut marks = [0; 1];
-        let framed = self.reader.reset(&mut bytes, &mut marks)?;
-        self.handed(&bytes[..framed.written], &marks[..framed.marks]);
-        self.ended = true;
-        Ok(())
-    }
-}
-
-impl<R: Read> Iterator for Units<R> {
-    type Item = std::io::Result<Vec<u8>>;
-
-    fn next(&mut self) -> Option<Self::Item> {
-        let mut chunk = [0; 4096];
-        loop {
-            if let Some(unit) = self.ready.pop_front() {
-                return Some(Ok(unit));
-            }
-            if self.ended {
-                return None;
-            }
-            let step = match self.stream.read(&mut chunk) {
-                Ok(0) => self.end(),
-                Ok(n) => self.push(&chunk[..n]),
-                Err(e) if e.kind() == std::io::ErrorKind::Interrupted => Ok(()),
-                Err(e) => {
-                    self.ended = true;
-                    return Some(Err(e));
-                }
-            };
-            if let Err(e) = step {
-                self.ended = true;
-                return Some(Err(e.into()));
-            }
-        }
     }
 }

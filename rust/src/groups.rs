@@ -1,20 +1,26 @@
+//! Slice groups of a picture parameter set (Rec 7.3.2.2, 7.4.2.2).
 use crate::{raw, BitReader, Error};
 
 /// The picture that slice groups are read for.
 #[derive(Clone, Copy, Debug, PartialEq, Eq)]
 pub struct Geometry {
+    /// not 0
     pub pic_width_in_mbs: u32,
     /// a multiple of the width, of 36,864 at most
     pub pic_size_in_map_units: u32,
 }
 
+/// A rectangle of map units, by the places of two corners.
 #[derive(Clone, Copy, Debug, PartialEq, Eq)]
 pub struct SliceRect {
+    /// its column is not right of that of `bottom_right`
     pub top_left: u32,
+    /// not over the picture's size
     pub bottom_right: u32,
 }
 
 impl SliceRect {
+    /// top_left and bottom_right, each ue(v). A refusal leaves the reader as it was.
     pub fn read(r: &mut BitReader<'_>, picture: Geometry) -> Result<SliceRect, Error> {
         let a = raw::read_slice_rect(r.position(), r.bytes(), picture.pic_width_in_mbs, picture.pic_size_in_map_units);
         r.moved(a[0], a[1])?;
@@ -22,10 +28,14 @@ impl SliceRect {
     }
 }
 
+/// How a slice group grows.
 #[derive(Clone, Copy, Debug, PartialEq, Eq)]
 pub enum SliceGroupChangeType {
+    /// map type 3
     BoxOut,
+    /// map type 4
     RasterScan,
+    /// map type 5
     WipeOut,
 }
 
@@ -42,28 +52,43 @@ pub enum SliceGroupChangeType {
 /// ```
 #[derive(Clone, Debug, PartialEq, Eq)]
 pub enum SliceGroup {
+    /// map type 0
     Interleaved {
+        /// of each group
         run_length_minus1: Vec<u32>,
     },
+    /// map type 1
     Dispersed {
+        /// as it was given
         num_slice_groups_minus1: u32,
     },
+    /// map type 2
     ForegroundAndLeftover {
+        /// of each group but the last
         rectangles: Vec<SliceRect>,
     },
+    /// map types 3, 4 and 5
     Changing {
+        /// which of them
         change_type: SliceGroupChangeType,
+        /// as it was given
         num_slice_groups_minus1: u32,
+        /// one bit
         slice_group_change_direction_flag: bool,
+        /// below the picture's size
         slice_group_change_rate_minus1: u32,
     },
+    /// map type 6
     ExplicitAssignment {
+        /// as it was given
         num_slice_groups_minus1: u32,
+        /// of each map unit; there may be fewer than the picture has, and ids over `num_slice_groups_minus1`
         slice_group_id: Vec<u8>,
     },
 }
 
 impl SliceGroup {
+    /// From slice_group_map_type on. A refusal leaves the reader as it was.
     pub fn read(r: &mut BitReader<'_>, num_slice_groups_minus1: u32, picture: Geometry) -> Result<SliceGroup, Error> {
         // a picture that is refused needs no room for ids
         let mut ids = vec![0; picture.pic_size_in_map_units.min(36_864) as usize];
@@ -96,7 +121,7 @@ impl SliceGroup {
     }
 }
 
-/// num_ref_idx_l0_default_active_minus1 or its fellow.
+/// num_ref_idx_l0_default_active_minus1 or its fellow: ue(v) of at most 31.
 ///
 /// ```
 /// use dampfeather::{read_num_ref_idx, BitReader, Error};

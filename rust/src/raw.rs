@@ -125,26 +125,26 @@ pub fn read(at: usize, s: &[u8], width: u32) -> [u64; 3] {
     answer
 }
 
-/// ue(v): as [`read`].
+/// ue(v): as [`read()`].
 pub fn read_ue(at: usize, s: &[u8]) -> [u64; 3] {
     let mut answer = [0; 3];
     unsafe { c::dampfeather_read_ue(at, s.as_ptr(), s.len(), &mut answer) };
     answer
 }
 
-/// One bit: as [`read`].
+/// One bit: as [`read()`].
 pub fn read_bit(at: usize, s: &[u8]) -> [u64; 3] {
     let mut answer = [0; 3];
     unsafe { c::dampfeather_read_bit(at, s.as_ptr(), s.len(), &mut answer) };
     answer
 }
 
-/// se(v): the value (0 of a refusal); number, and the place behind it.
-pub fn read_se(at: usize, s: &[u8]) -> (i32, [u64; 2]) {
+/// se(v): number, and the place behind it; then the value (0 of a refusal).
+pub fn read_se(at: usize, s: &[u8]) -> ([u64; 2], i32) {
     let mut value = 0;
     let mut answer = [0; 2];
     unsafe { c::dampfeather_read_se(at, s.as_ptr(), s.len(), &mut value, &mut answer) };
-    (value, answer)
+    (answer, value)
 }
 
 /// Number, and the place behind what was skipped.
@@ -171,6 +171,7 @@ pub fn finish_sei_payload(at: usize, s: &[u8]) -> u8 {
     unsafe { c::dampfeather_finish_sei_payload(at, s.as_ptr(), s.len()) }
 }
 
+/// Whether a byte starts at bit `at`.
 pub fn byte_aligned(at: usize) -> bool {
     unsafe { c::dampfeather_byte_aligned(at) }
 }
@@ -189,28 +190,28 @@ pub fn write(written: usize, pending: u8, count: u8, out: &mut [u8], width: u32,
     answer
 }
 
-/// One bit: as [`write`].
+/// One bit: as [`write()`].
 pub fn write_bit(written: usize, pending: u8, count: u8, out: &mut [u8], bit: bool) -> [u64; 4] {
     let mut answer = [0; 4];
     unsafe { c::dampfeather_write_bit(written, pending, count, out.as_mut_ptr(), out.len(), bit, &mut answer) };
     answer
 }
 
-/// ue(v): as [`write`].
+/// ue(v): as [`write()`].
 pub fn write_ue(written: usize, pending: u8, count: u8, out: &mut [u8], value: u32) -> [u64; 4] {
     let mut answer = [0; 4];
     unsafe { c::dampfeather_write_ue(written, pending, count, out.as_mut_ptr(), out.len(), value, &mut answer) };
     answer
 }
 
-/// se(v): as [`write`].
+/// se(v): as [`write()`].
 pub fn write_se(written: usize, pending: u8, count: u8, out: &mut [u8], value: i32) -> [u64; 4] {
     let mut answer = [0; 4];
     unsafe { c::dampfeather_write_se(written, pending, count, out.as_mut_ptr(), out.len(), value, &mut answer) };
     answer
 }
 
-/// A one, then zeros to the byte boundary: as [`write`].
+/// A one, then zeros to the byte boundary: as [`write()`].
 pub fn write_rbsp_trailing_bits(written: usize, pending: u8, count: u8, out: &mut [u8]) -> [u64; 4] {
     let mut answer = [0; 4];
     unsafe { c::dampfeather_write_rbsp_trailing_bits(written, pending, count, out.as_mut_ptr(), out.len(), &mut answer) };
@@ -224,11 +225,12 @@ pub fn byte_of(at: usize) -> [u64; 2] {
     answer
 }
 
+/// Whether no bit is pending.
 pub fn writer_byte_aligned(written: usize, pending: u8, count: u8) -> bool {
     unsafe { c::dampfeather_writer_byte_aligned(written, pending, count) }
 }
 
-/// num_ref_idx: as [`read`].
+/// num_ref_idx: as [`read()`].
 pub fn read_num_ref_idx(at: usize, s: &[u8]) -> [u64; 3] {
     let mut answer = [0; 3];
     unsafe { c::dampfeather_read_num_ref_idx(at, s.as_ptr(), s.len(), &mut answer) };
@@ -249,11 +251,13 @@ pub struct Groups {
     pub answer: [u64; 4],
     /// map type, direction, rate, pic_size_in_map_units_minus1
     pub group: [u64; 4],
+    /// run_length_minus1 of each group
     pub runs: [u32; 8],
     /// top_left and bottom_right of each rectangle in turn
     pub rects: [u32; 14],
 }
 
+/// Slice groups from the map type on. Ids go into the lent bytes.
 pub fn read_slice_groups(at: usize, s: &[u8], num_slice_groups_minus1: u32, width: u32, size: u32, ids: &mut [u8]) -> Groups {
     let mut g = Groups::default();
     unsafe {
