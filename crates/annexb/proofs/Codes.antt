@@ -4,7 +4,8 @@ use native.Mathlib.Omega.{arith}
 use mathlib.Core.Path.{_≡_, refl, ap, ap₂, sym, _∙_}
 use mathlib.Core.Bool.{Bool, true, false, _&&_, and-true, and-false}
 use mathlib.Core.List.{List, [], _∷_, _++_, append-assoc}
-use Rattle.desk.specs.Search.{trail, two, oneMore, shown}
+use Rattle.desk.specs.Search.{trail, shown}
+use Rattle.desk.specs.Zeros.{two, oneMore}
 use Rattle.desk.proofs.Search.{trail-more}
 use Rattle.desk.proofs.Choice.{cond-by}
 use Rattle.annexb.specs.Rule.{Frame, unended, behind, frameFrom}

@@ -7,7 +7,8 @@ use mathlib.Core.Bool.{Bool, true, false, cond, _&&_, and-true}
 use mathlib.Core.List.{List, [], _∷_, _++_, append-assoc, append-nil}
 use mathlib.Core.Option.{Option·some-injective}
 use lib.ListN.{length, replicate, length-append}
-use Rattle.desk.specs.Search.{is0, is1, upTo1, trail, shown, two, zerosAfter}
+use Rattle.desk.specs.Search.{is0, is1, upTo1, trail, shown}
+use Rattle.desk.specs.Zeros.{two, zerosAfter}
 use Rattle.desk.specs.Push.{seen, seenAfter, Follows}
 use Rattle.desk.proofs.Search.{trail-more, shown-other, shown-zero}
 use Rattle.desk.proofs.Choice.{ap-cond}

@@ -7,7 +7,8 @@ use mathlib.Core.Bool.{Bool, true, false, cond, _&&_}
 use mathlib.Core.List.{List, [], _∷_, _++_}
 use lib.ListN.{length, replicate, length-append, length-replicate}
 use borrow.Author.Tests.{eqb-true, eqb-false}
-use Rattle.desk.specs.Search.{is0, is1, upTo1, trail, two}
+use Rattle.desk.specs.Search.{is0, is1, upTo1, trail}
+use Rattle.desk.specs.Zeros.{two}
 use Rattle.desk.specs.Push.{Out, Answer, answers, marked, pushOf, Pushes, shifted, Seen, seen, Cut, accepts, Fits, Longest}
 use Rattle.desk.proofs.Choice.{cond-ind}
 use Rattle.desk.proofs.Cutting.{pushes-cut}

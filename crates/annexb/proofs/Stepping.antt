@@ -4,7 +4,8 @@ use native.Mathlib.Omega.{arith}
 use mathlib.Core.Path.{_≡_, refl}
 use mathlib.Core.Bool.{Bool, true, false, cond, _&&_}
 use mir.Val.{boolByte}
-use Rattle.desk.specs.Search.{is0, is1, upTo1, two, zerosAfter}
+use Rattle.desk.specs.Search.{is0, is1, upTo1}
+use Rattle.desk.specs.Zeros.{two, zerosAfter}
 use Rattle.desk.specs.Push.{Out}
 use Rattle.desk.proofs.Choice.{cond-ind}
 use Rattle.annexb.specs.declared.AnnexBReader.{AnnexBReader}

@@ -1,4 +1,4 @@
--- WHAT EACH CALL ANSWERS, for all that goes in; a push, its answer and what ties them to the code are the desk's. Assumes nothing: these are definitions.
+-- WHAT EACH CALL ANSWERS, for all that goes in; a push, its answer and what ties them to the code are the desk's.
 use Prim.Native.Nat.{ℕ}
 use mathlib.Core.Bool.{cond, _&&_}
 use mathlib.Core.List.{List, [], _∷_}

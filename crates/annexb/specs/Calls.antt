@@ -1,4 +1,4 @@
--- ANY CALLS OF ONE READER, AND WHAT THEY COME TO. Assumes nothing: these are definitions.
+-- ANY CALLS OF ONE READER, AND WHAT THEY COME TO.
 use Prim.Native.Nat.{ℕ, _+_}
 use mathlib.Core.Path.{_≡_}
 use mathlib.Core.List.{List, [], _∷_, _++_}

@@ -10,7 +10,7 @@ use mathlib.Core.Option.{Option, none, some}
 use lib.ListN.{length, take, getD, length-append, length-map}
 use lib.Seq.{append-snoc, take-length}
 use borrow.Author.Tests.{le-leb, leb-true, ne-eqb}
-use Rattle.desk.specs.Push.{Out, Next, Answer, answers, marked, took, fits, forbidden, run, pushOf, shifted, Seen, seen, Follows, acceptsBy, accepts, Fits, Longest, WholePush}
+use Rattle.desk.specs.Push.{Out, Next, Answer, answers, marked, took, fits, forbidden, run, pushOf, shifted, Seen, seen, Follows, acceptsBy, accepts, Fits, Longest, cameTo}
 use Rattle.desk.proofs.Choice.{and-left, and-right}
 use Rattle.desk.proofs.Pushing.{run-ends, run-takes, run-stops, run-forbidden}
 use Rattle.desk.proofs.Cutting.{Since, since-none, since-more, pushed-since, shifted-none}
@@ -214,33 +214,25 @@ module _ {S : Type 0} {next : Next S} {s₀ : S} {rule : List ℕ → Seen S} (f
         number-0 = l .number-0;
       })
 
-  -- one push takes all, wherever no byte is forbidden and the rooms hold what the rule gives
-  pub takes-all : (h chunk : List ℕ) (w m : ℕ) → accepts next (rule h .state) chunk ≡ true → Fits rule h chunk w m
-      → (pushOf next 0 (rule h .state) chunk w m .taken ≡ length chunk) × (pushOf next 0 (rule h .state) chunk w m .number ≡ 0)
-  takes-all h chunk w m acc fit =
-      let l = push-longest h chunk w m in
-      let whole = sym (take-length chunk) in
-      let n = l .longest (length chunk) (le-refl _) (subst (λ (c : List ℕ). accepts next (rule h .state) c ≡ true) whole acc) (subst (λ (c : List ℕ). Fits rule h c w m) whole fit) in
-      let all : pushOf next 0 (rule h .state) chunk w m .taken ≡ length chunk = omega (arith, n, l .few) in
-      (all, l .number-0 (λ z. let k = l .number-7 z in let x : ⊥ = omega (arith, k .0) in x) .0)
-
-  -- ONE PUSH FROM THE START takes a whole list and gives what the rule gives for it, wherever no byte is forbidden and the rooms hold that
-  pub whole-push : (chunk : List ℕ) (w m : ℕ) → accepts next s₀ chunk ≡ true → length (rule chunk .bytes) ≤ w → length (rule chunk .ends) ≤ m → WholePush rule chunk (pushOf next 0 s₀ chunk w m)
+  -- ONE PUSH FROM THE START takes a whole list and hands out what the rule gives for it, wherever no byte is forbidden and the rooms hold that
+  pub whole-push : (chunk : List ℕ) (w m : ℕ) → accepts next s₀ chunk ≡ true → length (rule chunk .bytes) ≤ w → length (rule chunk .ends) ≤ m
+      → pushOf next 0 s₀ chunk w m ≡ cameTo (length chunk) (rule chunk .state) (rule chunk .bytes) (rule chunk .ends)
   whole-push chunk w m acc fb fe =
       let new = f .new in
       let start : rule [] .state ≡ s₀ = ap (λ (v : Seen S). v .state) new in
       let no-bytes : rule [] .bytes ≡ [] = ap (λ (v : Seen S). v .bytes) new in
       let no-ends : rule [] .ends ≡ [] = ap (λ (v : Seen S). v .ends) new in
-      let fit : Fits rule [] chunk w m = record { bytes-fit = omega (arith, fb); ends-fit = omega (arith, fe) } in
-      let all = rw start at (takes-all [] chunk w m (rw start acc) fit) in
       let a = pushOf next 0 s₀ chunk w m in
-      let since = pushed-since f [] chunk s₀ 0 w m start in
+      let l : Longest next rule [] chunk w m a = subst (λ (s : S). Longest next rule [] chunk w m (pushOf next 0 s chunk w m)) start (push-longest [] chunk w m) in
+      let whole : take (length chunk) chunk ≡ chunk = take-length chunk in
+      let least : length chunk ≤ a .taken =
+      l .longest (length chunk) (le-refl _) (ap₂ (accepts next) start whole ∙ acc) (rw whole (record { bytes-fit = omega (arith, fb); ends-fit = omega (arith, fe) })) in
+      let all : a .taken ≡ length chunk = omega (arith, l .few) in
+      let no-7 : a .number ≡ 0 = l .number-0 (λ z. let k = l .number-7 z in let x : ⊥ = omega (arith, k .0) in x) .0 in
       let e : rule chunk ≡ seen (a .after) (rule [] .bytes ++ a .bytes) (rule [] .ends ++ shifted (length (rule [] .bytes)) (a .marks)) =
-      ap rule (sym (take-length chunk) ∙ ap (λ (n : ℕ). take n chunk) (sym (all .0))) ∙ since .seen-is in
-      record {
-        number = all .1;
-        taken = all .0;
-        bytes = sym (ap (λ (v : Seen S). v .bytes) e ∙ ap (λ (l : List ℕ). l ++ a .bytes) no-bytes);
-        marks = sym (ap (λ (v : Seen S). v .ends) e ∙ ap₂ (λ (l k : List ℕ). l ++ shifted (length k) (a .marks)) no-ends no-bytes ∙ shifted-none (a .marks));
-        state = sym (ap (λ (v : Seen S). v .state) e);
-      }
+      ap rule (sym whole ∙ ap (λ (n : ℕ). take n chunk) (sym all)) ∙ pushed-since f [] chunk s₀ 0 w m start .seen-is in
+      let here : rule chunk ≡ seen (a .after) (a .bytes) (a .marks) =
+      e
+      ∙ ap₂ (λ (x y : List ℕ). seen (a .after) (x ++ a .bytes) (y ++ shifted (length x) (a .marks))) no-bytes no-ends
+      ∙ ap (seen (a .after) (a .bytes)) (shifted-none (a .marks)) in
+      λ i. record { number = no-7 i; taken = all i; bytes = sym here i .bytes; marks = sym here i .ends; after = sym here i .state }

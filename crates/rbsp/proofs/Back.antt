@@ -6,7 +6,8 @@ use mathlib.Core.Bool.{Bool, true, false, cond, not, _&&_, false≢true, and-fal
 use mathlib.Core.List.{List, [], _∷_, _++_, append-assoc, append-nil}
 use mathlib.Core.Option.{Option, none, some}
 use lib.ListN.{length}
-use Rattle.desk.specs.Search.{is3, upTo2, upTo3, trail, two}
+use Rattle.desk.specs.Search.{is3, upTo2, upTo3, trail}
+use Rattle.desk.specs.Zeros.{two}
 use Rattle.desk.proofs.Lists.{snoc-ind, trail-few}
 use Rattle.desk.proofs.Search.{trail-more, none≢some}
 use Rattle.rbsp.specs.Rule.{escape, unescape, Legal, firstBreak, endsThree}

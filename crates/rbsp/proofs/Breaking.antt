@@ -10,7 +10,8 @@ use mathlib.Core.Option.{Option, none, some, Option·some-injective}
 use lib.ListN.{length, drop}
 use lib.Seq.{drop-nil}
 use Rattle.desk.specs.Push.{Out}
-use Rattle.desk.specs.Search.{upTo2, upTo3, stands, next as further, trail, two}
+use Rattle.desk.specs.Search.{upTo2, upTo3, stands, next as further, trail}
+use Rattle.desk.specs.Zeros.{two}
 use Rattle.desk.proofs.Search.{none≢some}
 use Rattle.rbsp.specs.Rule.{Legal, badFour, firstBreak, endsThree}
 use Rattle.rbsp.specs.Step.{next, readerAt}

@@ -13,7 +13,8 @@ use borrow.Author.Tests.{le-ltb, lt-ltb}
 use Rattle.desk.specs.Numbers.{most, anyOver, entryOf}
 use Rattle.desk.specs.Push.{Seen, pushOf}
 use Rattle.desk.specs.Room.{written}
-use Rattle.desk.specs.Search.{is3, stands, first, trail, two}
+use Rattle.desk.specs.Search.{is3, stands, first, trail}
+use Rattle.desk.specs.Zeros.{two}
 use Rattle.desk.proofs.Entering.{entry-done, entry-passed}
 use Rattle.desk.proofs.Lists.{snoc-ind}
 use Rattle.desk.proofs.Room.{written-none}

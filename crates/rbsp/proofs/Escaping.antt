@@ -8,7 +8,8 @@ use mathlib.Core.List.{List, [], _∷_, _++_, append-assoc}
 use mathlib.Core.Option.{Option, none, some, Option·some-injective}
 use lib.ListN.{length, take, drop, length-drop}
 use Rattle.desk.specs.Push.{Out, seen, seenAfter, Follows}
-use Rattle.desk.specs.Search.{upTo3, stands, next as further, first, trail, zerosAfter}
+use Rattle.desk.specs.Search.{upTo3, stands, next as further, first, trail}
+use Rattle.desk.specs.Zeros.{zerosAfter}
 use Rattle.desk.proofs.Choice.{ap-cond, cond-ind}
 use Rattle.desk.proofs.Lists.{snoc-ind, trail-past, trail-cons}
 use Rattle.desk.proofs.Search.{trail-more, stays}

@@ -11,7 +11,7 @@ use lib.Dec.{ltb}
 use lib.ListN.{length, getD}
 use Rattle.desk.specs.Numbers.{most}
 use Rattle.desk.specs.Push.{Out, marked, pushOf}
-use Rattle.desk.specs.Search.{zerosAfter}
+use Rattle.desk.specs.Zeros.{zerosAfter}
 use Rattle.desk.proofs.Entering.{entry-done}
 use Rattle.desk.proofs.Accepting.{enough-room}
 use Rattle.desk.proofs.Taking.{takes-first, push-longest}

@@ -5,7 +5,7 @@ use mathlib.Core.Path.{_≡_, refl, ap, _∙_}
 use mathlib.Core.Bool.{Bool, true, false, _&&_}
 use mathlib.Core.List.{[]}
 use mathlib.Core.Option.{some}
-use Rattle.desk.specs.Search.{two, zerosAfter}
+use Rattle.desk.specs.Zeros.{two, zerosAfter}
 use Rattle.desk.proofs.Bytes.{not-0, up-to-3, above-3, is-two, not-two}
 use Rattle.rbsp.specs.declared.reader.ParseState.{ParseState}
 use Rattle.rbsp.specs.declared.reader.ParseState.the-variants.{Skip}

@@ -9,7 +9,8 @@ use mathlib.Core.Option.{Option, none, some, Option·some-injective}
 use lib.ListN.{length, take, drop}
 use lib.Seq.{drop-nil}
 use Rattle.desk.specs.Push.{Out, seen, seenAfter, Follows}
-use Rattle.desk.specs.Search.{is0, is3, stands, next as further, first, trail, two, zerosAfter}
+use Rattle.desk.specs.Search.{is0, is3, stands, next as further, first, trail}
+use Rattle.desk.specs.Zeros.{two, zerosAfter}
 use Rattle.desk.proofs.Choice.{ap-cond, and-right}
 use Rattle.desk.proofs.Lists.{trail-past}
 use Rattle.desk.proofs.Search.{trail-more, stays}

@@ -1,4 +1,4 @@
--- WHAT EACH CALL ANSWERS, refusals included, and the one record that is its contract. Assumes nothing: these are definitions.
+-- WHAT EACH CALL ANSWERS, refusals included, and the one record that is its contract.
 use Prim.Native.Nat.{ℕ, suc, _≤_, _<_}
 use mathlib.Core.Path.{_≡_}
 use mathlib.Core.Bool.{cond}

@@ -1,4 +1,4 @@
--- WHAT IS PROMISED OF READING AND WRITING, over any trace of pushes that each meet their contract. Assumes nothing: these are definitions.
+-- WHAT IS PROMISED OF READING AND WRITING, over any trace of pushes that each meet their contract.
 use Prim.Native.Nat.{ℕ, _+_, _≤_}
 use mathlib.Core.Path.{_≡_}
 use mathlib.Core.List.{List}

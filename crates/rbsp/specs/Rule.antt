@@ -1,5 +1,5 @@
 -- THE ESCAPING RULES, over whole lists of bytes, by the places where 00 00 and a third byte stand (Rec 7.3.1, 7.4.1).
--- Nothing here knows of a reader's or a writer's step. Assumes nothing: these are definitions.
+-- Nothing here knows of a reader's or a writer's step.
 use Prim.Native.Nat.{ℕ, zero, suc}
 use mathlib.Core.Path.{_≡_}
 use mathlib.Core.Bool.{Bool, false, cond, not, _&&_}

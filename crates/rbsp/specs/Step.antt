@@ -1,4 +1,4 @@
--- What one byte does, and the state after any bytes. Assumes nothing: these are definitions.
+-- What one byte does, and the state after any bytes.
 use Prim.Native.Nat.{ℕ, zero, suc, _≤_}
 use mathlib.Core.Path.{_≡_}
 use mathlib.Core.Bool.{Bool, false, cond, _&&_}
@@ -8,7 +8,8 @@ use lib.ListN.{drop, replicate}
 use lib.Dec.{ltb}
 use Rattle.desk.specs.Numbers.{entryOf}
 use Rattle.desk.specs.Push.{Out, Next, Seen, seen}
-use Rattle.desk.specs.Search.{is3, upTo2, upTo3, two, trail, zerosAfter}
+use Rattle.desk.specs.Search.{is3, upTo2, upTo3, trail}
+use Rattle.desk.specs.Zeros.{two, zerosAfter}
 use Rattle.rbsp.specs.Rule.{escape, unescape, endsThree}
 use Rattle.rbsp.specs.declared.reader.ParseState.{ParseState}
 use Rattle.rbsp.specs.declared.reader.ParseState.the-variants.{Start, Skip, PostThree}

@@ -1,4 +1,4 @@
--- UNITS WRITTEN BEHIND START CODES, AND READ BACK UNIT FOR UNIT (demand 3). Assumes nothing: these are definitions.
+-- UNITS WRITTEN BEHIND START CODES, AND READ BACK UNIT FOR UNIT (demand 3).
 use Prim.Native.Nat.{ℕ, _-_}
 use mathlib.Core.Path.{_≡_}
 use mathlib.Core.List.{List, [], _∷_, _++_, map}
