@@ -101,7 +101,7 @@ escape-legal s = none-legal (escape s) (escape-unbroken s)
 -- ---- and back
 
 -- what writing makes of an unescaped list
-record Written (s u : List ℕ) : Type 0 where
+record Rewrites (s u : List ℕ) : Type 0 where
   whole : escape u ++ cond (endsThree s) (3 ∷ []) [] ≡ s
   zeros : trail (escape u) ≡ cond (endsThree s) 2 (trail s)
 
@@ -142,9 +142,9 @@ not-not : (c : Bool) → not c ≡ false → c ≡ true
 not-not true e = refl
 not-not false e = sym e
 
-module _ (s : List ℕ) (b : ℕ) (w : Written s (unescape s)) where
+module _ (s : List ℕ) (b : ℕ) (w : Rewrites s (unescape s)) where
   -- behind a removed 03: writing puts it back
-  write-behind : endsThree s ≡ true → upTo3 b ≡ true → Written (s ++ b ∷ []) (unescape (s ++ b ∷ []))
+  write-behind : endsThree s ≡ true → upTo3 b ≡ true → Rewrites (s ++ b ∷ []) (unescape (s ++ b ∷ []))
   write-behind t u =
       let z : trail s ≡ 0 = ends-three-trail s t in
       let g = escape (unescape s) in
@@ -161,7 +161,7 @@ module _ (s : List ℕ) (b : ℕ) (w : Written s (unescape s)) where
     same : escape (unescape s) ≡ s
     same = sym (append-nil _) ∙ ap (λ (c : Bool). escape (unescape s) ++ cond c (3 ∷ []) []) (sym f) ∙ w .whole
 
-    write-removed : (two (trail s) && is3 b) ≡ true → Written (s ++ b ∷ []) (unescape (s ++ b ∷ []))
+    write-removed : (two (trail s) && is3 b) ≡ true → Rewrites (s ++ b ∷ []) (unescape (s ++ b ∷ []))
     write-removed r =
         let un : unescape (s ++ b ∷ []) ≡ unescape s = unescape-more s b ∙ ap (λ (c : Bool). unescape s ++ cond c [] (b ∷ [])) r ∙ append-nil (unescape s) in
         let yes : endsThree (s ++ b ∷ []) ≡ true = ends-three-more s b ∙ r in
@@ -177,7 +177,7 @@ module _ (s : List ℕ) (b : ℕ) (w : Written s (unescape s)) where
         right true e = e
         right false e = absurd (false≢true e)
 
-    write-alone : (two (trail s) && is3 b) ≡ false → Written (s ++ b ∷ []) (unescape (s ++ b ∷ []))
+    write-alone : (two (trail s) && is3 b) ≡ false → Rewrites (s ++ b ∷ []) (unescape (s ++ b ∷ []))
     write-alone r =
         let un : unescape (s ++ b ∷ []) ≡ unescape s ++ b ∷ [] = unescape-more s b ∙ ap (λ (c : Bool). unescape s ++ cond c [] (b ∷ [])) r in
         let no : endsThree (s ++ b ∷ []) ≡ false = ends-three-more s b ∙ r in
@@ -185,22 +185,22 @@ module _ (s : List ℕ) (b : ℕ) (w : Written s (unescape s)) where
         ap escape un ∙ escape-more (unescape s) b ∙ ap (λ (l : List ℕ). l ++ let-out (trail l) b) same ∙ ap (λ (c : Bool). s ++ cond c (3 ∷ b ∷ []) (b ∷ [])) (not-stuffed (trail s) b forb r) in
         record { whole = rw no (append-nil _ ∙ es); zeros = rw no (ap trail es) }
 
-  write-more : forbids s b ≡ false → Written (s ++ b ∷ []) (unescape (s ++ b ∷ []))
+  write-more : forbids s b ≡ false → Rewrites (s ++ b ∷ []) (unescape (s ++ b ∷ []))
   write-more e = go (endsThree s) refl e (two (trail s) && is3 b) refl
     where
-      go : (c : Bool) → endsThree s ≡ c → cond c (not (upTo3 b)) (two (trail s) && upTo2 b) ≡ false → (d : Bool) → (two (trail s) && is3 b) ≡ d → Written (s ++ b ∷ []) (unescape (s ++ b ∷ []))
+      go : (c : Bool) → endsThree s ≡ c → cond c (not (upTo3 b)) (two (trail s) && upTo2 b) ≡ false → (d : Bool) → (two (trail s) && is3 b) ≡ d → Rewrites (s ++ b ∷ []) (unescape (s ++ b ∷ []))
       go true q f d r = write-behind q (not-not (upTo3 b) f)
       go false q f true r = write-removed q f r
       go false q f false r = write-alone q f r
 
-written : (s : List ℕ) → firstBreak s ≡ none → Written s (unescape s)
+rewritten : (s : List ℕ) → firstBreak s ≡ none → Rewrites s (unescape s)
 unfolding escape unescape
-written =
-    snoc-ind (λ (s : List ℕ). firstBreak s ≡ none → Written s (unescape s)) (λ e. record { whole = refl; zeros = refl })
+rewritten =
+    snoc-ind (λ (s : List ℕ). firstBreak s ≡ none → Rewrites s (unescape s)) (λ e. record { whole = refl; zeros = refl })
     (λ s b ih e. let q = unbroken-before s b e in write-more s b (ih (q .0)) (q .1))
 
 -- UNESCAPING THEN ESCAPING GIVES THE ORIGINAL TOO, unless its last byte is a removed 03
 pub escape-unescape : (s : List ℕ) → Legal s → endsThree s ≡ false → escape (unescape s) ≡ s
 escape-unescape s l f =
-    let w = written s (legal-none s l) in
+    let w = rewritten s (legal-none s l) in
     sym (append-nil _) ∙ ap (λ (c : Bool). escape (unescape s) ++ cond c (3 ∷ []) []) (sym f) ∙ w .whole

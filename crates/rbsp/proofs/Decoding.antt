@@ -11,7 +11,7 @@ use lib.Seq.{take-suc, split-at, length-take-le}
 use lib.Dec.{ltb}
 use borrow.Author.Tests.{le-ltb, lt-ltb}
 use Rattle.desk.specs.Numbers.{most, anyOver, entryOf}
-use Rattle.desk.specs.Push.{Seen, pushOf}
+use Rattle.desk.specs.Push.{Answer, Seen, pushOf, pushBy}
 use Rattle.desk.specs.Room.{written}
 use Rattle.desk.specs.Search.{is3, stands, first, trail}
 use Rattle.desk.specs.Zeros.{two}
@@ -170,8 +170,8 @@ says-filled (x ∷ tail) room room′ n r f e l p =
     let nal = x ∷ tail in
     let enter : readEntry (skipping 1) (length nal) (length room) 0 ≡ 0 = entry-done (length nal ∷ length room ∷ 0 ∷ []) false (f .nal-few, (f .room-few, (omega arith, tt))) refl in
     let w = whole-push (read-follows 1) nal (length room) 0 (legal-accepts 1 nal (f .unbroken)) (omega (arith, f .kept-is)) (omega arith) in
-    let bytes : pushOf next (readEntry (skipping 1) (length nal) (length room) 0) (skipping 1) nal (length room) 0 .bytes ≡ unescape tail =
-    ap (λ (k : ℕ). pushOf next k (skipping 1) nal (length room) 0 .bytes) enter ∙ w .bytes in
+    let bytes : pushBy next readEntry (skipping 1) nal (length room) 0 .bytes ≡ unescape tail =
+    ap (λ (k : ℕ). pushOf next k (skipping 1) nal (length room) 0 .bytes) enter ∙ ap (λ (a : Answer ParseState). a .bytes) w in
     let d = decode-filled (length room) x tail (f .nal-few) (f .room-few) (f .unbroken) (λ q. e (omega (arith, f .kept-is))) (omega (arith, f .kept-is)) in
     record {
       number-is = rw d refl;

@@ -1,28 +1,31 @@
 -- READING AND WRITING, however the bytes are cut into pushes and whatever room is lent.
-use Prim.Native.Nat.{ℕ, zero, suc, _+_, _-_, _≤_, _<_}
+use Prim.Native.Nat.{ℕ, zero, suc, _+_, _-_, _≤_, _<_, zero-le}
 use native.Mathlib.Omega.{arith}
 use mathlib.Core.Path.{_≡_, refl, ap, ap₂, sym, _∙_, subst}
+use mathlib.Core.Bool.{false}
 use mathlib.Core.List.{List, [], _∷_}
 use mathlib.Core.Option.{none, some}
 use lib.ListN.{length, take, drop, getD, length-take, length-drop}
 use lib.Seq.{getD-take, getD-drop, split-at, length-take-le, take-length}
-use Rattle.desk.specs.Push.{Answer, Seen, pushOf, accepts}
+use Rattle.desk.specs.Push.{Answer, Seen, pushOf, PushesOn, accepts}
 use Rattle.desk.specs.Push.Pushes.{one-more}
 use Rattle.desk.specs.Search.{trail}
 use Rattle.desk.proofs.Cutting.{pushes-cut}
-use Rattle.desk.proofs.Entering.{entry-few}
+use Rattle.desk.proofs.Entering.{entry-done, entry-few}
 use Rattle.desk.proofs.Search.{none≢some}
 use Rattle.desk.proofs.Accepting.{pushes-accepted}
+use Rattle.desk.proofs.Once.{at-once}
 use Rattle.desk.proofs.Taking.{push-refused, push-longest}
 use Rattle.rbsp.specs.Rule.{unescape, Legal, firstBreak}
-use Rattle.rbsp.specs.Step.{next, badState, readEntry, readerAt, zeros}
-use Rattle.rbsp.specs.Promise.{Reads, ReadsOn, Writes, Reading, Seventh, Writing}
+use Rattle.rbsp.specs.Step.{next, skipping, badState, readEntry, readerAt, zeros}
+use Rattle.rbsp.specs.Promise.{Reads, Writes, Reading, Seventh, Writing}
 use Rattle.rbsp.specs.declared.reader.ParseState.{ParseState}
 use Rattle.rbsp.specs.declared.writer.ByteWriter.{ByteWriter}
 use Rattle.rbsp.proofs.Back.{unescape-escape, escape-legal}
 use Rattle.rbsp.proofs.Breaking.{none-legal, legal-none}
 use Rattle.rbsp.proofs.Escaping.{write-follows}
 use Rattle.rbsp.proofs.Legality.{forbidden-broken, accepts-legal}
+use Rattle.rbsp.proofs.Rooms.{new-good}
 use Rattle.rbsp.proofs.Unescaping.{reader-new, read-follows}
 
 unbroken-so-far : (skip : ℕ) {stream : List ℕ} {n : ℕ} {s : ParseState} {given ends : List ℕ} → Reads skip stream n s given ends → firstBreak (drop skip (take n stream)) ≡ none
@@ -30,13 +33,17 @@ unbroken-so-far skip {stream} {n} p = accepts-legal skip (take n stream) (ap (λ
 
 -- DELIVERED BYTES ARE `unescape` OF WHAT WAS TAKEN PAST THE SKIP, after each push
 pub reading : (skip : ℕ) {stream : List ℕ} {n : ℕ} {s : ParseState} {given ends : List ℕ} → Reads skip stream n s given ends → Reading skip stream n s given
-reading skip {stream} {n} p =
+reading skip {stream} {n} {s} {given} {ends} p =
     let c = pushes-cut (read-follows skip) p in
+    let unmarked : ends ≡ [] = sym (ap (λ (v : Seen ParseState). v .ends) (c .rule-gives)) in
     record {
       within = c .within;
       bytes = sym (ap (λ (v : Seen ParseState). v .bytes) (c .rule-gives));
       state = sym (ap (λ (v : Seen ParseState). v .state) (c .rule-gives));
       legal = none-legal (drop skip (take n stream)) (unbroken-so-far skip p);
+      at-once = λ out out′ r o nf rf hold.
+          at-once (read-follows skip) (subst (Reads skip stream n s given) unmarked p) out [] out′ [] (r .number) (r .taken) (r .written) 0 (r .state .state) o
+          (entry-done (n ∷ length out ∷ 0 ∷ []) (badState (skipping skip)) (nf, (rf, (zero-le, tt))) (new-good skip)) hold zero-le;
     }
 
 -- the byte behind n + t bytes of the stream
@@ -52,7 +59,8 @@ entered s chunk w m (suc e) h z =
 
 -- A 7'S INDEX IS THE LAST BYTE OF THE FIRST WINDOW THAT BREAKS THE PROHIBITION
 pub seventh : (skip : ℕ) {stream : List ℕ} {n : ℕ} {s : ParseState} {given ends : List ℕ} → Reads skip stream n s given ends
-    → (k : ℕ) (out marks out′ marks′ : List ℕ) (number taken wrote markedN : ℕ) (s′ : ParseState) → ReadsOn stream n s k out marks out′ marks′ number taken wrote markedN s′
+    → (k : ℕ) (out marks out′ marks′ : List ℕ) (number taken wrote markedN : ℕ) (s′ : ParseState)
+    → PushesOn next readEntry stream n s k out marks out′ marks′ number taken wrote markedN s′
     → number ≡ 7 → Seventh skip stream n taken
 seventh skip {stream} {n} {s} p k out marks out′ marks′ number taken wrote markedN s′ o z =
     let h = take n stream in
@@ -85,7 +93,8 @@ seventh skip {stream} {n} {s} p k out marks out′ marks′ number taken wrote m
 
 -- A LEGAL LIST MEETS NO 7
 pub legal-no-7 : (skip : ℕ) {stream : List ℕ} {n : ℕ} {s : ParseState} {given ends : List ℕ} → Legal (drop skip stream) → Reads skip stream n s given ends
-    → (k : ℕ) (out marks out′ marks′ : List ℕ) (number taken wrote markedN : ℕ) (s′ : ParseState) → ReadsOn stream n s k out marks out′ marks′ number taken wrote markedN s′
+    → (k : ℕ) (out marks out′ marks′ : List ℕ) (number taken wrote markedN : ℕ) (s′ : ParseState)
+    → PushesOn next readEntry stream n s k out marks out′ marks′ number taken wrote markedN s′
     → number ≡ 7 → ⊥
 legal-no-7 skip {stream} l p k out marks out′ marks′ number taken wrote markedN s′ o z =
     none≢some (sym (legal-none (drop skip stream) l) ∙ seventh skip p k out marks out′ marks′ number taken wrote markedN s′ o z .breaks)
@@ -96,13 +105,17 @@ taken-legal skip {stream} p = subst (λ (l : List ℕ). Legal (drop skip l)) (ta
 
 -- WHAT IS WRITTEN IS `escape` OF WHAT WAS TAKEN, after each push
 pub writing : {stream : List ℕ} {n : ℕ} {s : ByteWriter} {given ends : List ℕ} → Writes stream n s given ends → Writing stream n s given
-writing {stream} {n} p =
+writing {stream} {n} {s} {given} {ends} p =
     let c = pushes-cut write-follows p in
     let e = sym (ap (λ (v : Seen ByteWriter). v .bytes) (c .rule-gives)) in
+    let unmarked : ends ≡ [] = sym (ap (λ (v : Seen ByteWriter). v .ends) (c .rule-gives)) in
     record {
       within = c .within;
       bytes = e;
       state = sym (ap (λ (v : Seen ByteWriter). v .state) (c .rule-gives)) ∙ ap (λ (l : List ℕ). zeros (trail l)) (sym e);
       legal = subst Legal (sym e) (escape-legal (take n stream));
       back = ap unescape e ∙ unescape-escape (take n stream);
+      at-once = λ out out′ r o nf rf hold.
+          at-once write-follows (subst (Writes stream n s given) unmarked p) out [] out′ [] (r .number) (r .taken) (r .written) 0 (r .state) o
+          (entry-done (n ∷ length out ∷ 0 ∷ []) false (nf, (rf, (zero-le, tt))) refl) hold zero-le;
     }

@@ -7,7 +7,7 @@ use mathlib.Core.Option.{Option, none, some}
 use lib.ListN.{length, take, drop}
 use lib.Dec.{ltb}
 use Rattle.desk.specs.Numbers.{most, done, tooLong, forbiddenByte, emptyNal, noRoom, anyOver}
-use Rattle.desk.specs.Push.{pushOf, Gives}
+use Rattle.desk.specs.Push.{Answer, pushBy, Gives}
 use Rattle.desk.specs.Room.{written}
 use Rattle.desk.specs.Search.{is3, first}
 use Rattle.rbsp.specs.Rule.{unescape, firstBreak}
@@ -23,11 +23,19 @@ use Rattle.rbsp.specs.declared.nal.Surveyed.the-variants.{Kept, Forbidde
 
 -- ---- the pushes: no marks are written, so none are lent
 
+-- an outcome is the answer: what is returned, and all of the room at exit
+abbrev pub ReadGave : Answer ParseState → List ℕ → List ℕ → Pushed → Type 0
+ReadGave a out out′ r = Gives a out [] out′ [] (r .number) (r .taken) (r .written) 0 (r .state .state)
+
+abbrev pub WriteGave : Answer ByteWriter → List ℕ → List ℕ → Written → Type 0
+WriteGave a out out′ r = Gives a out [] out′ [] (r .number) (r .taken) (r .written) 0 (r .state)
+
+-- THE CONTRACTS
 abbrev pub ReadPush : ParseState → List ℕ → List ℕ → List ℕ → Pushed → Type 0
-ReadPush s chunk out out′ r = Gives (pushOf next (readEntry s (length chunk) (length out) 0) s chunk (length out) 0) out [] out′ [] (r .number) (r .taken) (r .written) 0 (r .state .state)
+ReadPush s chunk out out′ r = ReadGave (pushBy next readEntry s chunk (length out) 0) out out′ r
 
 abbrev pub WritePush : ByteWriter → List ℕ → List ℕ → List ℕ → Written → Type 0
-WritePush s chunk out out′ r = Gives (pushOf escapes (writeEntry s (length chunk) (length out) 0) s chunk (length out) 0) out [] out′ [] (r .number) (r .taken) (r .written) 0 (r .state)
+WritePush s chunk out out′ r = WriteGave (pushBy escapes writeEntry s chunk (length out) 0) out out′ r
 
 abbrev pub newWriter : ByteWriter
 newWriter = zeros 0
