@@ -1,27 +1,32 @@
 -- THE LAWS OF FRAMING THAT A CALLER CITES: cuts, room, what follows any history, one outcome.
 use Prim.Native.Nat.{ℕ, _+_, _≤_, zero-le}
 use native.Mathlib.Omega.{arith}
-use lib.Dec.{eqb}
+use lib.Dec.{eqb, ltb}
 use mathlib.Core.Path.{_≡_, refl, ap, ap₂, sym, _∙_, subst}
 use mathlib.Core.Bool.{Bool, true, false, cond, _&&_}
 use mathlib.Core.List.{List, [], _∷_, _++_}
+use mathlib.Core.Option.{Option·some-injective}
 use lib.ListN.{length, replicate, length-append, length-replicate}
-use borrow.Author.Tests.{eqb-true, eqb-false}
+use borrow.Author.Tests.{eqb-true, eqb-false, le-ltb}
 use Rattle.desk.specs.Search.{is0, is1, upTo1, trail}
 use Rattle.desk.specs.Zeros.{two}
-use Rattle.desk.specs.Push.{Out, Answer, answers, marked, pushOf, Pushes, shifted, Seen, seen, Cut, accepts, Fits, Longest}
+use Rattle.desk.specs.Push.{Out, Answer, answers, marked, pushOf, Pushes, shifted, Seen, seen, Cut, accepts, Longest}
 use Rattle.desk.proofs.Choice.{cond-ind}
 use Rattle.desk.proofs.Cutting.{pushes-cut}
+use Rattle.desk.proofs.Entering.{entry-done}
 use Rattle.desk.proofs.Lists.{trail-few}
+use Rattle.desk.proofs.Once.{at-once}
 use Rattle.desk.proofs.Restarting.{restart}
-use Rattle.desk.proofs.Taking.{push-refused, push-longest, takes-all, takes-first}
+use Rattle.desk.proofs.Taking.{push-refused, push-longest, takes-first}
 use Rattle.desk.proofs.Unique.{one-outcome}
+use Rattle.desk.proofs.Ways.{way}
 use Rattle.annexb.specs.declared.AnnexBReader.{AnnexBReader}
 use Rattle.annexb.specs.declared.Pushed.{Pushed}
-use Rattle.annexb.specs.Rule.{given, ends, frame}
+use Rattle.annexb.specs.Rule.{given, ends, frame, frameFrom}
 use Rattle.annexb.specs.Seen.{new, rule, stateOf}
 use Rattle.annexb.specs.Step.{inStep, outStep, step, stepping}
 use Rattle.annexb.specs.Answer.{entering, pushAnswer, Gave}
+use Rattle.annexb.specs.Promise.{FramesAtOnce, Framing, FrameWay}
 use Rattle.annexb.proofs.Following.{follows}
 use Rattle.annexb.proofs.Pushing.{zeros-passed}
 
@@ -32,12 +37,25 @@ pub pushes-rule : {s₀ : AnnexBReader} → s₀ .zeros ≤ 2 → {stream : List
     → Pushes stepping entering s₀ stream n s g e → Cut (rule s₀) stream n s g e
 pushes-rule {s₀} k p = pushes-cut (follows s₀ k) p
 
--- so two ways of cutting that have taken as many bytes, one push of them all among them, agree
-pub same-however-cut : {s₀ : AnnexBReader} → s₀ .zeros ≤ 2 → {stream : List ℕ} {n : ℕ} {s s′ : AnnexBReader} {g e g′ e′ : List ℕ}
-    → Pushes stepping entering s₀ stream n s g e → Pushes stepping entering s₀ stream n s′ g′ e′ → (s ≡ s′) × (g ≡ g′) × (e ≡ e′)
-same-however-cut k p q =
-    let same = sym (pushes-rule k p .rule-gives) ∙ pushes-rule k q .rule-gives in
-    (ap (λ (v : Seen AnnexBReader). v .state) same, ap (λ (v : Seen AnnexBReader). v .bytes) same, ap (λ (v : Seen AnnexBReader). v .ends) same)
+-- ONE PUSH, where the limit and the rooms let it, does what any pushes did, from any state that is not bad
+pub frames-at-once : {s₀ : AnnexBReader} → s₀ .zeros ≤ 2 → {stream : List ℕ} {n : ℕ} {s : AnnexBReader} {g e : List ℕ}
+    → Pushes stepping entering s₀ stream n s g e → FramesAtOnce s₀ stream n s g e
+frames-at-once {s₀} k {stream} {n} p room marks room′ marks′ r o nf rf mf =
+    at-once (follows s₀ k) p room marks room′ marks′ (r .number) (r .taken) (r .written) (r .marked) (r .state) o
+    (entry-done (n ∷ length room ∷ length marks ∷ []) (ltb 2 (s₀ .zeros)) (nf, (rf, (mf, tt))) (le-ltb 2 (s₀ .zeros) k))
+
+-- FRAMING, from a new reader
+pub framing : {stream : List ℕ} {n : ℕ} {s : AnnexBReader} {g e : List ℕ} → Pushes stepping entering new stream n s g e → Framing stream n s g e
+framing p =
+    let c = pushes-rule zero-le p in
+    let r = sym (c .rule-gives) in
+    record {
+      within = c .within;
+      bytes-are = ap (λ (v : Seen AnnexBReader). v .bytes) r;
+      ends-are = ap (λ (v : Seen AnnexBReader). v .ends) r;
+      state-is = ap (λ (v : Seen AnnexBReader). v .state) r;
+      at-once = frames-at-once zero-le p;
+    }
 
 -- ---- any history
 
@@ -63,11 +81,6 @@ module _ (s : AnnexBReader) (chunk : List ℕ) (w m : ℕ) (e : entering s (leng
   pub push-takes-longest : Longest stepping (rule s) [] chunk w m (pushAnswer s chunk w m)
   push-takes-longest = subst (Longest stepping (rule s) [] chunk w m) from-here (push-longest (follows s few) [] chunk w m)
 
-  -- all of it, where the rooms hold what the rule gives
-  pub push-takes-all : Fits (rule s) [] chunk w m → pushAnswer s chunk w m .taken ≡ length chunk
-  push-takes-all fit =
-      subst (λ (a : Answer AnnexBReader). a .taken ≡ length chunk) from-here (takes-all (follows s few) [] chunk w m (no-byte-forbidden (rule s [] .state) chunk) fit .0)
-
 step-three : (s : AnnexBReader) (b : ℕ) → s .zeros ≤ 2 → length (step s b .bytes) ≤ 3
 step-three s b h =
     cond-ind (λ (o : Out AnnexBReader). length (o .bytes) ≤ 3) (s .«in_unit») (inStep (s .zeros) b) (outStep (s .zeros) b)
@@ -84,6 +97,16 @@ pub push-takes-one : (s : AnnexBReader) (b : ℕ) (bs : List ℕ) (w m : ℕ) �
 push-takes-one s b bs w m e h k =
     let z = few s (b ∷ bs) w m e in
     subst (λ (n : ℕ). 1 ≤ pushOf stepping n s (b ∷ bs) w m .taken) (sym e) (takes-first stepping s b bs w m (step s b) refl (omega (arith, step-three s b z)) (omega (arith, mark-one (step s b .mark) [])))
+
+-- THERE IS A WAY: three bytes and one mark, lent again and again, take every stream
+pub frame-way : (s₀ : AnnexBReader) → s₀ .zeros ≤ 2 → (stream : List ℕ) → FrameWay s₀ stream
+frame-way s₀ k stream =
+    way (follows s₀ k) entering stream (0 ∷ 0 ∷ 0 ∷ []) (0 ∷ []) (λ h. entry-done (1 ∷ 3 ∷ 1 ∷ []) (ltb 2 (rule s₀ h .state .zeros)) (omega arith, (omega arith, (omega arith, tt))) (le-ltb 2 (rule s₀ h .state .zeros) (held h)))
+    (λ h b o e. subst (λ (x : Out AnnexBReader). (length (x .bytes) ≤ 3) × (length (marked (x .mark) []) ≤ 1)) (Option·some-injective (step (rule s₀ h .state) b) o e) (step-three (rule s₀ h .state) b (held h), mark-one (step (rule s₀ h .state) b .mark) []))
+    (no-byte-forbidden s₀ stream)
+  where
+    held : (h : List ℕ) → rule s₀ h .state .zeros ≤ 2
+    held h = trail-few (frameFrom (s₀ .«in_unit») (replicate (s₀ .zeros) 0 ++ h) .rest)
 
 -- ---- numbers
 
