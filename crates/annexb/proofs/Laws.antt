@@ -1,13 +1,13 @@
 -- THE LAWS OF FRAMING THAT A CALLER CITES: cuts, room, what follows any history, one outcome.
 use Prim.Native.Nat.{ℕ, _+_, _≤_, zero-le}
 use native.Mathlib.Omega.{arith}
-use lib.Dec.{eqb, ltb}
+use lib.Dec.{ltb}
 use mathlib.Core.Path.{_≡_, refl, ap, ap₂, sym, _∙_, subst}
 use mathlib.Core.Bool.{Bool, true, false, cond, _&&_}
 use mathlib.Core.List.{List, [], _∷_, _++_}
 use mathlib.Core.Option.{Option·some-injective}
 use lib.ListN.{length, replicate, length-append, length-replicate}
-use borrow.Author.Tests.{eqb-true, eqb-false, le-ltb}
+use borrow.Author.Tests.{le-ltb}
 use Rattle.desk.specs.Search.{is0, is1, upTo1, trail}
 use Rattle.desk.specs.Zeros.{two}
 use Rattle.desk.specs.Push.{Out, Answer, answers, marked, pushOf, Pushes, shifted, Seen, seen, Cut, accepts, Longest}
@@ -17,7 +17,7 @@ use Rattle.desk.proofs.Entering.{entry-done}
 use Rattle.desk.proofs.Lists.{trail-few}
 use Rattle.desk.proofs.Once.{at-once}
 use Rattle.desk.proofs.Restarting.{restart}
-use Rattle.desk.proofs.Taking.{push-refused, push-longest, takes-first}
+use Rattle.desk.proofs.Taking.{push-refused, push-entered, never-7, push-longest, takes-first}
 use Rattle.desk.proofs.Unique.{one-outcome}
 use Rattle.desk.proofs.Ways.{way}
 use Rattle.annexb.specs.declared.AnnexBReader.{AnnexBReader}
@@ -25,7 +25,7 @@ use Rattle.annexb.specs.declared.Pushed.{Pushed}
 use Rattle.annexb.specs.Rule.{given, ends, frame, frameFrom}
 use Rattle.annexb.specs.Seen.{new, rule, stateOf}
 use Rattle.annexb.specs.Step.{inStep, outStep, step, stepping}
-use Rattle.annexb.specs.Answer.{entering, pushAnswer, Gave}
+use Rattle.annexb.specs.Answer.{entering, pushAnswer, Gave, FramePush}
 use Rattle.annexb.specs.Promise.{FramesAtOnce, Framing, FrameWay}
 use Rattle.annexb.proofs.Following.{follows}
 use Rattle.annexb.proofs.Pushing.{zeros-passed}
@@ -93,10 +93,20 @@ mark-one true l = omega arith
 mark-one false l = omega arith
 
 -- LENT THREE BYTES AND ONE MARK IT TAKES AT LEAST ONE BYTE
-pub push-takes-one : (s : AnnexBReader) (b : ℕ) (bs : List ℕ) (w m : ℕ) → entering s (length (b ∷ bs)) w m ≡ 0 → 3 ≤ w → 1 ≤ m → 1 ≤ pushAnswer s (b ∷ bs) w m .taken
+pub push-takes-one : (s : AnnexBReader) (b : ℕ) (bs : List ℕ) (w m : ℕ) → entering s (length (b ∷ bs)) w m ≡ 0 → 3 ≤ w → 1 ≤ m
+    → 1 ≤ pushAnswer s (b ∷ bs) w m .taken
 push-takes-one s b bs w m e h k =
     let z = few s (b ∷ bs) w m e in
-    subst (λ (n : ℕ). 1 ≤ pushOf stepping n s (b ∷ bs) w m .taken) (sym e) (takes-first stepping s b bs w m (step s b) refl (omega (arith, step-three s b z)) (omega (arith, mark-one (step s b .mark) [])))
+    subst (λ (n : ℕ). 1 ≤ pushOf stepping n s (b ∷ bs) w m .taken) (sym e)
+    (takes-first stepping s b bs w m (step s b) refl (omega (arith, step-three s b z)) (omega (arith, mark-one (step s b .mark) [])))
+
+-- wherever the answer is 0
+pub frame-one : (s : AnnexBReader) (b : ℕ) (bs room marks room′ marks′ : List ℕ) (r : Pushed) → FramePush s (b ∷ bs) room marks room′ marks′ r
+    → r .number ≡ 0 → 3 ≤ length room → 1 ≤ length marks → 1 ≤ r .taken
+frame-one s b bs room marks room′ marks′ r o z h k =
+    let e = push-entered stepping (entering s (length (b ∷ bs)) (length room) (length marks)) s (b ∷ bs) (length room) (length marks) (sym (o .number-is) ∙ z) in
+    let n = push-takes-one s b bs (length room) (length marks) e h k in
+    omega (arith, o .taken-is)
 
 -- THERE IS A WAY: three bytes and one mark, lent again and again, take every stream
 pub frame-way : (s₀ : AnnexBReader) → s₀ .zeros ≤ 2 → (stream : List ℕ) → FrameWay s₀ stream
@@ -116,14 +126,7 @@ push-kept s chunk w m h = push-refused stepping (entering s (length chunk) w m) 
 
 -- a push answers 0, 1 or 2, by its entry checks alone
 pub push-number : (s : AnnexBReader) (chunk : List ℕ) (w m : ℕ) → pushAnswer s chunk w m .number ≡ entering s (length chunk) w m
-push-number s chunk w m = go (eqb (entering s (length chunk) w m) 0) refl
-  where
-    go : (c : Bool) → eqb (entering s (length chunk) w m) 0 ≡ c → pushAnswer s chunk w m .number ≡ entering s (length chunk) w m
-    go true q =
-        let e = eqb-true (entering s (length chunk) w m) 0 q in
-        let l = push-takes-longest s chunk w m e in
-        l .number-0 (λ k. let x : _≡_ {A = ℕ} 0 1 = cc (l .number-7 k .1) in omega arith) .0 ∙ sym e
-    go false q = ap (λ (a : Answer AnnexBReader). a .number) (push-kept s chunk w m (eqb-false (entering s (length chunk) w m) 0 q))
+push-number s chunk w m = never-7 stepping (λ x b e. let z : _≡_ {A = ℕ} 0 1 = cc in omega arith) (entering s (length chunk) w m) s chunk w m
 
 -- ---- ONE OUTCOME: what the contract of a push or of a reset says leaves one
 pub one-result : {a : Answer AnnexBReader} {room marks room₁ room₂ marks₁ marks₂ : List ℕ} {r₁ r₂ : Pushed}

@@ -12,7 +12,7 @@ use lib.Seq.{append-snoc, take-suc}
 use borrow.Author.Tests.{ltb-true, ltb-false}
 use Rattle.desk.specs.Push.{Out, Next, Answer, marked, pushOf, Pushes, Seen, Follows, acceptsBy, accepts, Longest}
 use Rattle.desk.proofs.Cutting.{taken-front, pushed-few, pushed-since, pushes-cut}
-use Rattle.desk.proofs.Taking.{push-refused, push-longest}
+use Rattle.desk.proofs.Taking.{push-refused, push-entered, push-longest}
 
 module _ {S : Type 0} {next : Next S} {s₀ : S} {rule : List ℕ → Seen S} (f : Follows next s₀ rule) where
   accepts-append : (h₀ h c : List ℕ) → accepts next (rule h₀ .state) h ≡ true → accepts next (rule (h₀ ++ h) .state) c ≡ true → accepts next (rule h₀ .state) (h ++ c) ≡ true
@@ -70,8 +70,8 @@ module _ {S : Type 0} {next : Next S} {s₀ : S} {rule : List ℕ → Seen S} (f
             marks-same true l = refl
             marks-same false l = refl
 
-    pub enough-room : (h chunk : List ℕ) (w m : ℕ) → c * length chunk ≤ w → d * length chunk ≤ m → pushOf next 0 (rule h .state) chunk w m .number ≡ 0 → pushOf next 0 (rule h .state) chunk w m .taken ≡ length chunk
-    enough-room h chunk w m cw dm z = go (ltb (pushOf next 0 (rule h .state) chunk w m .taken) (length chunk)) refl
+    takes-up-to : (h chunk : List ℕ) (w m : ℕ) → c * length chunk ≤ w → d * length chunk ≤ m → pushOf next 0 (rule h .state) chunk w m .number ≡ 0 → pushOf next 0 (rule h .state) chunk w m .taken ≡ length chunk
+    takes-up-to h chunk w m cw dm z = go (ltb (pushOf next 0 (rule h .state) chunk w m .taken) (length chunk)) refl
       where
         l : Longest next rule h chunk w m (pushOf next 0 (rule h .state) chunk w m)
         l = push-longest f h chunk w m
@@ -96,3 +96,10 @@ module _ {S : Type 0} {next : Next S} {s₀ : S} {rule : List ℕ → Seen S} (f
             let n = l .number-0 (λ s. let x : ⊥ = omega (arith, z) in x) .1 k in
             let o = more (pushOf next 0 (rule h .state) chunk w m .taken) refl k _ refl (λ e. n (ap (λ (s : S). next s (getD chunk (pushOf next 0 (rule h .state) chunk w m .taken) 0)) (sym st) ∙ e)) in
             let x : ⊥ = omega (arith, o) in absurd x
+
+    -- A PUSH THAT ANSWERS 0, with room for all, takes all
+    pub enough-room : (h chunk : List ℕ) (e w m : ℕ) → c * length chunk ≤ w → d * length chunk ≤ m
+        → pushOf next e (rule h .state) chunk w m .number ≡ 0 → pushOf next e (rule h .state) chunk w m .taken ≡ length chunk
+    enough-room h chunk e w m cw dm z =
+        let same = ap (λ (k : ℕ). pushOf next k (rule h .state) chunk w m) (push-entered next e (rule h .state) chunk w m z) in
+        ap (λ (a : Answer S). a .taken) same ∙ takes-up-to h chunk w m cw dm (ap (λ (a : Answer S). a .number) (sym same) ∙ z)

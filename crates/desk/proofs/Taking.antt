@@ -33,15 +33,62 @@ run-more {S} next w m a (b ∷ bs) = go (next (a .after) b) refl (λ o. run-more
         fit false d = le-of-eq (ap (λ (x : Answer S). x .taken) (sym (run-stops next w m a b bs o e d)))
         fit true d = let i = ih o in let q : run next w m a (b ∷ bs) .taken ≡ run next w m (took a o) bs .taken = ap (λ (x : Answer S). x .taken) (run-takes next w m a b bs o e d) in omega arith
 
+-- a push that answers 0 passed its entry checks
+pub push-entered : {S : Type 0} (next : Next S) (e : ℕ) (s : S) (chunk : List ℕ) (w m : ℕ) → pushOf next e s chunk w m .number ≡ 0 → e ≡ 0
+push-entered next zero s chunk w m z = refl
+push-entered next (suc n) s chunk w m z =
+    sym (ap (λ (a : Answer _). a .number) (push-refused next (suc n) s chunk w m (λ e. let x : ⊥ = omega arith in x))) ∙ z
+
+-- where no byte is forbidden, its number is that of the entry checks
+module _ {S : Type 0} (next : Next S) (never : (s : S) (b : ℕ) → next s b ≡ none → ⊥) where
+  run-number : (w m : ℕ) (a : Answer S) (bs : List ℕ) → run next w m a bs .number ≡ a .number
+  run-number w m a [] = ap (λ (x : Answer S). x .number) (run-ends next w m a)
+  run-number w m a (b ∷ bs) = go (next (a .after) b) refl (λ o. run-number w m (took a o) bs)
+    where
+      go : (r : Option (Out S)) → next (a .after) b ≡ r → ((o : Out S) → run next w m (took a o) bs .number ≡ a .number)
+          → run next w m a (b ∷ bs) .number ≡ a .number
+      go none e ih = absurd (never (a .after) b e)
+      go (some o) e ih = fit (fits w m a o) refl
+        where
+          fit : (c : Bool) → fits w m a o ≡ c → run next w m a (b ∷ bs) .number ≡ a .number
+          fit false d = ap (λ (x : Answer S). x .number) (run-stops next w m a b bs o e d)
+          fit true d = ap (λ (x : Answer S). x .number) (run-takes next w m a b bs o e d) ∙ ih o
+
+  pub never-7 : (e : ℕ) (s : S) (chunk : List ℕ) (w m : ℕ) → pushOf next e s chunk w m .number ≡ e
+  unfolding pushOf
+  never-7 zero s chunk w m = run-number w m (answers 0 s) chunk
+  never-7 (suc n) s chunk w m = ap (λ (a : Answer S). a .number) (push-refused next (suc n) s chunk w m (λ e. let x : ⊥ = omega arith in x))
+
 -- FROM ANY STATE a push takes at least one byte, where it is not forbidden and all that it releases fits
-pub takes-first : {S : Type 0} (next : Next S) (s : S) (b : ℕ) (bs : List ℕ) (w m : ℕ) (o : Out S) → next s b ≡ some o → length (o .bytes) ≤ w → length (marked (o .mark) []) ≤ m
-    → 1 ≤ pushOf next 0 s (b ∷ bs) w m .taken
+pub takes-first : {S : Type 0} (next : Next S) (s : S) (b : ℕ) (bs : List ℕ) (w m : ℕ) (o : Out S)
+    → next s b ≡ some o → length (o .bytes) ≤ w → length (marked (o .mark) []) ≤ m → 1 ≤ pushOf next 0 s (b ∷ bs) w m .taken
 unfolding pushOf
 takes-first {S} next s b bs w m o e x y =
     let d : fits w m (answers 0 s) o ≡ true = ap₂ _&&_ (le-leb (0 + length (o .bytes)) w (omega arith)) (le-leb (0 + length (marked (o .mark) [])) m (omega arith)) in
-    let q : run next w m (answers 0 s) (b ∷ bs) .taken ≡ run next w m (took (answers 0 s) o) bs .taken = ap (λ (a : Answer S). a .taken) (run-takes next w m (answers 0 s) b bs o e d) in
+    let q : run next w m (answers 0 s) (b ∷ bs) .taken ≡ run next w m (took (answers 0 s) o) bs .taken =
+    ap (λ (a : Answer S). a .taken) (run-takes next w m (answers 0 s) b bs o e d) in
     let i = run-more next w m (took (answers 0 s) o) bs in
     omega arith
+
+-- a forbidden byte at the front answers 7, with nothing taken
+pub stops-first : {S : Type 0} (next : Next S) (s : S) (b : ℕ) (bs : List ℕ) (w m : ℕ) → next s b ≡ none → pushOf next 0 s (b ∷ bs) w m ≡ answers 7 s
+unfolding pushOf
+stops-first next s b bs w m e = run-forbidden next w m (answers 0 s) b bs e
+
+-- A PUSH THAT ANSWERS 0 takes at least one byte, where all that the first releases fits
+pub takes-one : {S : Type 0} (next : Next S) (s : S) (b : ℕ) (bs : List ℕ) (e w m : ℕ)
+    → ((o : Out S) → next s b ≡ some o → (length (o .bytes) ≤ w) × (length (marked (o .mark) []) ≤ m))
+    → pushOf next e s (b ∷ bs) w m .number ≡ 0 → 1 ≤ pushOf next e s (b ∷ bs) w m .taken
+takes-one {S} next s b bs e w m room z = subst (λ (k : ℕ). 1 ≤ pushOf next k s (b ∷ bs) w m .taken) (sym zero-e) (go (next s b) refl)
+  where
+    zero-e : e ≡ 0
+    zero-e = push-entered next e s (b ∷ bs) w m z
+
+    go : (r : Option (Out S)) → next s b ≡ r → 1 ≤ pushOf next 0 s (b ∷ bs) w m .taken
+    go (some o) q = let f = room o q in takes-first next s b bs w m o q (f .0) (f .1)
+    go none q =
+        let seven : _≡_ {A = ℕ} 0 7 = sym z ∙ ap (λ (k : ℕ). pushOf next k s (b ∷ bs) w m .number) zero-e ∙ ap (λ (a : Answer S). a .number) (stops-first next s b bs w m q) in
+        let x : ⊥ = omega arith in absurd x
 
 module _ {S : Type 0} {next : Next S} {s₀ : S} {rule : List ℕ → Seen S} (f : Follows next s₀ rule) where
   -- what is handed out only grows
