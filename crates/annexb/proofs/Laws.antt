@@ -3,12 +3,12 @@ use Prim.Native.Nat.{ℕ, _+_, _≤_, zero-le}
 use native.Mathlib.Omega.{arith}
 use lib.Dec.{ltb}
 use mathlib.Core.Path.{_≡_, refl, ap, ap₂, sym, _∙_, subst}
-use mathlib.Core.Bool.{Bool, true, false, cond, _&&_}
+use mathlib.Core.Bool.{Bool, true, false, _&&_}
 use mathlib.Core.List.{List, [], _∷_, _++_}
 use mathlib.Core.Option.{Option·some-injective}
 use lib.ListN.{length, replicate, length-append, length-replicate}
 use borrow.Author.Tests.{le-ltb}
-use Rattle.desk.specs.Search.{is0, is1, upTo1, trail}
+use Rattle.desk.specs.Search.{is0, is1, upTo1}
 use Rattle.desk.specs.Zeros.{two}
 use Rattle.desk.specs.Push.{Out, Answer, answers, marked, pushOf, Pushes, shifted, Seen, seen, Cut, accepts, Longest}
 use Rattle.desk.proofs.Choice.{cond-ind}
@@ -65,7 +65,8 @@ no-byte-forbidden s (b ∷ bs) = no-byte-forbidden (step s b .after) bs
 
 -- FROM ANY HISTORY h ON, the rule of the state reached gives what the rule gives for h ++ t beyond h
 pub onward : (h t : List ℕ)
-    → rule new (h ++ t) ≡ seen (rule (stateOf h) t .state) (given h ++ rule (stateOf h) t .bytes) (ends h ++ shifted (length (given h)) (rule (stateOf h) t .ends))
+    → rule new (h ++ t)
+    ≡ seen (rule (stateOf h) t .state) (given h ++ rule (stateOf h) t .bytes) (ends h ++ shifted (length (given h)) (rule (stateOf h) t .ends))
 onward h t = restart (follows new zero-le) h (follows (stateOf h) (trail-few (frame h .rest))) t (no-byte-forbidden (stateOf h) t)
 
 -- ---- room
@@ -75,7 +76,8 @@ module _ (s : AnnexBReader) (chunk : List ℕ) (w m : ℕ) (e : entering s (leng
   few = zeros-passed (length chunk ∷ w ∷ m ∷ []) (s .zeros) (entering s (length chunk) w m) refl e
 
   from-here : pushOf stepping 0 (rule s [] .state) chunk w m ≡ pushAnswer s chunk w m
-  from-here = ap₂ (λ (n : ℕ) (x : AnnexBReader). pushOf stepping n x chunk w m) (sym e) (ap (λ (v : Seen AnnexBReader). v .state) (follows s few .new))
+  from-here =
+      ap₂ (λ (n : ℕ) (x : AnnexBReader). pushOf stepping n x chunk w m) (sym e) (ap (λ (v : Seen AnnexBReader). v .state) (follows s few .new))
 
   -- A PUSH THAT IS NOT REFUSED TAKES THE LONGEST FRONT ALL OF WHOSE RELEASES FIT
   pub push-takes-longest : Longest stepping (rule s) [] chunk w m (pushAnswer s chunk w m)
@@ -85,7 +87,8 @@ step-three : (s : AnnexBReader) (b : ℕ) → s .zeros ≤ 2 → length (step s 
 step-three s b h =
     cond-ind (λ (o : Out AnnexBReader). length (o .bytes) ≤ 3) (s .«in_unit») (inStep (s .zeros) b) (outStep (s .zeros) b)
     (cond-ind (λ (o : Out AnnexBReader). length (o .bytes) ≤ 3) (two (s .zeros) && upTo1 b) _ _ zero-le
-    (cond-ind (λ (l : List ℕ). length l ≤ 3) (is0 b) [] (replicate (s .zeros) 0 ++ b ∷ []) zero-le (simp (length-append, length-replicate) (omega arith))))
+    (cond-ind (λ (l : List ℕ). length l ≤ 3) (is0 b) [] (replicate (s .zeros) 0 ++ b ∷ []) zero-le
+    (simp (length-append, length-replicate) (omega arith))))
     (cond-ind (λ (o : Out AnnexBReader). length (o .bytes) ≤ 3) (two (s .zeros) && is1 b) _ _ zero-le zero-le)
 
 mark-one : (c : Bool) (l : List ℕ) → length (marked c l) ≤ 1
@@ -104,15 +107,20 @@ push-takes-one s b bs w m e h k =
 pub frame-one : (s : AnnexBReader) (b : ℕ) (bs room marks room′ marks′ : List ℕ) (r : Pushed) → FramePush s (b ∷ bs) room marks room′ marks′ r
     → r .number ≡ 0 → 3 ≤ length room → 1 ≤ length marks → 1 ≤ r .taken
 frame-one s b bs room marks room′ marks′ r o z h k =
-    let e = push-entered stepping (entering s (length (b ∷ bs)) (length room) (length marks)) s (b ∷ bs) (length room) (length marks) (sym (o .number-is) ∙ z) in
+    let e =
+    push-entered stepping (entering s (length (b ∷ bs)) (length room) (length marks)) s (b ∷ bs) (length room) (length marks)
+    (sym (o .number-is) ∙ z) in
     let n = push-takes-one s b bs (length room) (length marks) e h k in
     omega (arith, o .taken-is)
 
 -- THERE IS A WAY: three bytes and one mark, lent again and again, take every stream
 pub frame-way : (s₀ : AnnexBReader) → s₀ .zeros ≤ 2 → (stream : List ℕ) → FrameWay s₀ stream
 frame-way s₀ k stream =
-    way (follows s₀ k) entering stream (0 ∷ 0 ∷ 0 ∷ []) (0 ∷ []) (λ h. entry-done (1 ∷ 3 ∷ 1 ∷ []) (ltb 2 (rule s₀ h .state .zeros)) (omega arith, (omega arith, (omega arith, tt))) (le-ltb 2 (rule s₀ h .state .zeros) (held h)))
-    (λ h b o e. subst (λ (x : Out AnnexBReader). (length (x .bytes) ≤ 3) × (length (marked (x .mark) []) ≤ 1)) (Option·some-injective (step (rule s₀ h .state) b) o e) (step-three (rule s₀ h .state) b (held h), mark-one (step (rule s₀ h .state) b .mark) []))
+    way (follows s₀ k) entering stream (0 ∷ 0 ∷ 0 ∷ []) (0 ∷ [])
+    (λ h. entry-done (1 ∷ 3 ∷ 1 ∷ []) (ltb 2 (rule s₀ h .state .zeros)) (omega arith, (omega arith, (omega arith, tt)))
+    (le-ltb 2 (rule s₀ h .state .zeros) (held h)))
+    (λ h b o e. subst (λ (x : Out AnnexBReader). (length (x .bytes) ≤ 3) × (length (marked (x .mark) []) ≤ 1))
+    (Option·some-injective (step (rule s₀ h .state) b) o e) (step-three (rule s₀ h .state) b (held h), mark-one (step (rule s₀ h .state) b .mark) []))
     (no-byte-forbidden s₀ stream)
   where
     held : (h : List ℕ) → rule s₀ h .state .zeros ≤ 2
@@ -121,7 +129,8 @@ frame-way s₀ k stream =
 -- ---- numbers
 
 -- a refused push changes nothing
-pub push-kept : (s : AnnexBReader) (chunk : List ℕ) (w m : ℕ) → (entering s (length chunk) w m ≡ 0 → ⊥) → pushAnswer s chunk w m ≡ answers (entering s (length chunk) w m) s
+pub push-kept : (s : AnnexBReader) (chunk : List ℕ) (w m : ℕ) → (entering s (length chunk) w m ≡ 0 → ⊥)
+    → pushAnswer s chunk w m ≡ answers (entering s (length chunk) w m) s
 push-kept s chunk w m h = push-refused stepping (entering s (length chunk) w m) s chunk w m h
 
 -- a push answers 0, 1 or 2, by its entry checks alone
@@ -132,5 +141,14 @@ push-number s chunk w m = never-7 stepping (λ x b e. let z : _≡_ {A = ℕ} 0 
 pub one-result : {a : Answer AnnexBReader} {room marks room₁ room₂ marks₁ marks₂ : List ℕ} {r₁ r₂ : Pushed}
     → Gave a room marks room₁ marks₁ r₁ → Gave a room marks room₂ marks₂ r₂ → (r₁ ≡ r₂) × (room₁ ≡ room₂) × (marks₁ ≡ marks₂)
 one-result p q =
-    let same = one-outcome p q in
-    (λ i. record { number = same .number i; taken = same .taken i; written = same .wrote i; marked = same .marked i; state = same .state i }, same .out, same .marks)
+    let same = one-outcome p q in (
+      λ i. record {
+        number = same .number i;
+        taken = same .taken i;
+        written = same .wrote i;
+        marked = same .marked i;
+        state = same .state i;
+      },
+      same .out,
+      same .marks,
+    )

@@ -1,8 +1,8 @@
 -- THERE IS A WAY: resets that are done, and calls of one reader that take any streams whole.
 use Prim.Native.Nat.{ℕ, _+_, _≤_, zero-le}
 use native.Mathlib.Omega.{arith}
-use mathlib.Core.Path.{_≡_, refl, ap, ap₂, sym, _∙_, subst}
-use mathlib.Core.List.{List, [], _∷_, _++_, map}
+use mathlib.Core.Path.{refl, ap, ap₂, sym, subst}
+use mathlib.Core.List.{List, [], _∷_, _++_}
 use lib.Dec.{ltb}
 use lib.ListN.{length, take, drop}
 use lib.Seq.{take-length}
@@ -19,7 +19,7 @@ use Rattle.annexb.specs.Rule.{frame}
 use Rattle.annexb.specs.Seen.{new}
 use Rattle.annexb.specs.Step.{stepping}
 use Rattle.annexb.specs.Answer.{entering, resetAnswer}
-use Rattle.annexb.specs.Promise.{FrameWay, ResetWay}
+use Rattle.annexb.specs.Promise.{ResetWay}
 use Rattle.annexb.specs.Calls.{Span, Calls, CallsWay}
 use Rattle.annexb.proofs.Calling.{calls-rule}
 use Rattle.annexb.proofs.Completing.{reset-done}
@@ -35,7 +35,9 @@ reset-way s k =
       marks′ = written (0 ∷ []) (a .marks);
       closed = record { number = a .number; taken = a .taken; written = length (a .bytes); marked = length (a .marks); state = a .after };
       reset = outcome a (0 ∷ 0 ∷ []) (0 ∷ []);
-      done = reset-done s 2 1 (entry-done (0 ∷ 2 ∷ 1 ∷ []) (ltb 2 (s .zeros)) (zero-le, (omega arith, (omega arith, tt))) (le-ltb 2 (s .zeros) k)) k (omega arith);
+      done =
+          reset-done s 2 1 (entry-done (0 ∷ 2 ∷ 1 ∷ []) (ltb 2 (s .zeros)) (zero-le, (omega arith, (omega arith, tt))) (le-ltb 2 (s .zeros) k)) k
+          (omega arith);
     }
 
 -- a state that pushes left is not bad
@@ -50,9 +52,11 @@ as-calls {spans} c {stream} (Pushes.one-more {n} {s} {given} {ends} p k out mark
     let chunk = take k (drop n stream) in
     let st = ap (λ (v : Seen AnnexBReader). v .state) (pushes-rule zero-le p .rule-gives) in
     let entry = entering s (length chunk) (length out) (length marks) in
-    let few : taken ≤ length chunk = omega (arith, o .taken-is, pushed-few (follows new zero-le) (take n stream) chunk s entry (length out) (length marks) st) in
+    let few : taken ≤ length chunk =
+    omega (arith, o .taken-is, pushed-few (follows new zero-le) (take n stream) chunk s entry (length out) (length marks) st) in
     let r : Pushed = record { number = number; taken = taken; written = wrote; marked = markedN; state = s′ } in
-    subst (λ (h : List ℕ). Calls spans h s′ (given ++ take wrote out′) (ends ++ shifted (length given) (take markedN marks′))) (taken-front n k taken stream few)
+    subst (λ (h : List ℕ). Calls spans h s′ (given ++ take wrote out′) (ends ++ shifted (length given) (take markedN marks′)))
+    (taken-front n k taken stream few)
     (Calls.pushed (as-calls c p) chunk out marks out′ marks′ r o)
 
 -- a reader that a reset left is new

@@ -16,9 +16,13 @@ pub record Span : Type 0 where
   pub bytes : List ℕ
   pub ends : List ℕ
 
--- After any calls from a new reader: the spans that a reset closed, the latest first, and of the span since: the bytes taken, the state, the joined bytes
--- and the ends.
--- Each call goes on from the state that the last one returned, and is known by its contract alone. A push may be lent any chunk, and every call any rooms.
+abbrev pub span : List ℕ → List ℕ → List ℕ → Span
+span h g e = record { taken = h; bytes = g; ends = e }
+
+-- After any calls from a new reader: the spans that a reset closed, the latest first, and of the span since: the bytes taken, the state, the joined
+-- bytes and the ends.
+-- Each call goes on from the state that the last one returned, and is known by its contract alone. A push may be lent any chunk, and every call any
+-- rooms.
 pub data Calls : List Span → List ℕ → AnnexBReader → List ℕ → List ℕ → Type 0 where
   none-yet : Calls [] [] new [] []
   pushed : {spans : List Span} {h : List ℕ} {s : AnnexBReader} {g e : List ℕ} → Calls spans h s g e
@@ -26,7 +30,7 @@ pub data Calls : List Span → List ℕ → AnnexBReader → List ℕ → List �
       → Calls spans (h ++ take (r .taken) chunk) (r .state) (g ++ take (r .written) room′) (e ++ shifted (length g) (take (r .marked) marks′))
   reset-done : {spans : List Span} {h : List ℕ} {s : AnnexBReader} {g e : List ℕ} → Calls spans h s g e
       → (room marks room′ marks′ : List ℕ) (r : Pushed) → FrameReset s room marks room′ marks′ r → r .number ≡ 0
-      → Calls (record { taken = h; bytes = g ++ take (r .written) room′; ends = e ++ shifted (length g) (take (r .marked) marks′) } ∷ spans) [] (r .state) [] []
+      → Calls (span h (g ++ take (r .written) room′) (e ++ shifted (length g) (take (r .marked) marks′)) ∷ spans) [] (r .state) [] []
   reset-refused : {spans : List Span} {h : List ℕ} {s : AnnexBReader} {g e : List ℕ} → Calls spans h s g e
       → (room marks room′ marks′ : List ℕ) (r : Pushed) → FrameReset s room marks room′ marks′ r → (r .number ≡ 0 → ⊥)
       → Calls spans h (r .state) (g ++ take (r .written) room′) (e ++ shifted (length g) (take (r .marked) marks′))

@@ -12,15 +12,16 @@ use Rattle.annexb.specs.Seen.{new, stateOf}
 use Rattle.annexb.specs.Step.{stepping}
 use Rattle.annexb.specs.Answer.{entering, Gave, FramePush, FrameReset}
 
--- ONE PUSH from the state s₀, lent those n bytes and rooms for what was given, within the limit: it takes them all, and leaves the same state, bytes and ends
+-- ONE PUSH from the state s₀, lent those n bytes and rooms for what was given, within the limit: it takes them all, and leaves the same state, bytes
+-- and ends
 abbrev pub FramesAtOnce : AnnexBReader → List ℕ → ℕ → AnnexBReader → List ℕ → List ℕ → Type 0
 FramesAtOnce s₀ stream n s g e =
     (room marks room′ marks′ : List ℕ) (r : Pushed) → FramePush s₀ (take n stream) room marks room′ marks′ r
     → n ≤ most → length room ≤ most → length marks ≤ most → length g ≤ length room → length e ≤ length marks
     → Gave (cameTo n s g e) room marks room′ marks′ r
 
--- after some pushes of a stream from a new reader, n bytes taken: joined bytes and ends are those that the rule gives for these bytes, the state is fixed by
--- them, and one push comes to the same
+-- after some pushes of a stream from a new reader, n bytes taken: joined bytes and ends are those that the rule gives for these bytes, the state is
+-- fixed by them, and one push comes to the same
 pub record Framing (stream : List ℕ) (n : ℕ) (s : AnnexBReader) (g e : List ℕ) : Type 0 where
   pub within : n ≤ length stream
   pub bytes-are : g ≡ given (take n stream)

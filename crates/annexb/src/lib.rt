@@ -41,8 +41,9 @@ fn does(in_unit: bool, zeros: u8, count: usize, ends: usize) -> Stepped
     }
 }
 
-// Behind two zeros 01 starts a unit, and 00 or 01 ends one: neither pattern stands in a NAL unit (Rec 7.4.1), and a start code is 00 00 01 (Rec B.1.1).
-// A third zero is no third held one: the two before it may yet be a start code's. Any other byte of a unit releases the zeros held, and itself.
+// Behind two zeros 01 starts a unit, and 00 or 01 ends one: neither pattern stands in a NAL unit (Rec 7.4.1), and a start code is 00 00 01
+// (Rec B.1.1). A third zero is no third held one: the two before it may yet be a start code's. Any other byte of a unit releases the zeros
+// held, and itself.
 fn step(s: AnnexBReader, b: u8) -> Stepped
     requires { ⌜ s .zeros ≤ 2 ⌝ }
     ensures { λ r. ⌜ Does (step s b) b r ⌝ }
@@ -171,7 +172,8 @@ impl AnnexBReader {
         gave(taken, written, marked, state)
     }
 
-    // Ends an open unit, with its held zeros and its mark, and forgets all. Outside a unit it hands out nothing. 1, 2: as a push. 10: they do not fit.
+    // Ends an open unit, with its held zeros and its mark, and forgets all. Outside a unit it hands out nothing. 1, 2: as a push. 10: they do not
+    // fit.
     pub fn reset(self, room: &mut [u8], marks: &mut [u64]) -> Pushed
         ensures { λ r. ⌜ FrameReset self (now (room .entry)) (now (marks .entry)) (now (room .exit)) (now (marks .exit)) r ⌝ }
     {

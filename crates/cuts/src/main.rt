@@ -102,8 +102,8 @@ fn part(s: &[u8], a: usize, b: usize) -> &[u8] {
     &s[a..b]
 }
 
-// Pushes a piece, at most `lend` bytes at a time, until all of it is taken: with these rooms each push takes a byte at least, so as many turns as bytes
-// are enough.
+// Pushes a piece, at most `lend` bytes at a time, until all of it is taken: with these rooms each push takes a byte at least, so as many turns
+// as bytes are enough.
 fn push_all(
     run: Run,
     piece: &[u8],
@@ -160,8 +160,8 @@ fn end(
         & (last.zeros == 0)
 }
 
-// One case: the first w bytes of the room and the first m marks are lent, the stream is cut at a, b and c (in fewer pieces where two of them are equal,
-// or one is at an end), and each push is lent at most `lend` bytes of its piece.
+// One case: the first w bytes of the room and the first m marks are lent, the stream is cut at a, b and c (in fewer pieces where two of them
+// are equal, or one is at an end), and each push is lent at most `lend` bytes of its piece.
 struct Case {
     w: usize,
     m: usize,

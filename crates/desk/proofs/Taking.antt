@@ -10,7 +10,8 @@ use mathlib.Core.Option.{Option, none, some}
 use lib.ListN.{length, take, getD, length-append, length-map}
 use lib.Seq.{append-snoc, take-length}
 use borrow.Author.Tests.{le-leb, leb-true, ne-eqb}
-use Rattle.desk.specs.Push.{Out, Next, Answer, answers, marked, took, fits, forbidden, run, pushOf, shifted, Seen, seen, Follows, acceptsBy, accepts, Fits, Longest, cameTo}
+use Rattle.desk.specs.Push.{Out, Next, Answer, answers, marked, took, fits, forbidden, run, pushOf, shifted, Seen, seen, Follows, acceptsBy}
+use Rattle.desk.specs.Push.{accepts, Longest, cameTo}
 use Rattle.desk.proofs.Choice.{and-left, and-right}
 use Rattle.desk.proofs.Pushing.{run-ends, run-takes, run-stops, run-forbidden}
 use Rattle.desk.proofs.Cutting.{Since, since-none, since-more, pushed-since, shifted-none}
@@ -25,13 +26,17 @@ run-more : {S : Type 0} (next : Next S) (w m : ℕ) (a : Answer S) (bs : List �
 run-more next w m a [] = le-of-eq (ap (λ (x : Answer _). x .taken) (sym (run-ends next w m a)))
 run-more {S} next w m a (b ∷ bs) = go (next (a .after) b) refl (λ o. run-more next w m (took a o) bs)
   where
-    go : (r : Option (Out S)) → next (a .after) b ≡ r → ((o : Out S) → a .taken + 1 ≤ run next w m (took a o) bs .taken) → a .taken ≤ run next w m a (b ∷ bs) .taken
+    go : (r : Option (Out S)) → next (a .after) b ≡ r → ((o : Out S) → a .taken + 1 ≤ run next w m (took a o) bs .taken)
+        → a .taken ≤ run next w m a (b ∷ bs) .taken
     go none e ih = le-of-eq (ap (λ (x : Answer S). x .taken) (sym (run-forbidden next w m a b bs e)))
     go (some o) e ih = fit (fits w m a o) refl
       where
         fit : (c : Bool) → fits w m a o ≡ c → a .taken ≤ run next w m a (b ∷ bs) .taken
         fit false d = le-of-eq (ap (λ (x : Answer S). x .taken) (sym (run-stops next w m a b bs o e d)))
-        fit true d = let i = ih o in let q : run next w m a (b ∷ bs) .taken ≡ run next w m (took a o) bs .taken = ap (λ (x : Answer S). x .taken) (run-takes next w m a b bs o e d) in omega arith
+        fit true d =
+            let i = ih o in
+            let q : run next w m a (b ∷ bs) .taken ≡ run next w m (took a o) bs .taken =
+            ap (λ (x : Answer S). x .taken) (run-takes next w m a b bs o e d) in omega arith
 
 -- a push that answers 0 passed its entry checks
 pub push-entered : {S : Type 0} (next : Next S) (e : ℕ) (s : S) (chunk : List ℕ) (w m : ℕ) → pushOf next e s chunk w m .number ≡ 0 → e ≡ 0
@@ -64,7 +69,8 @@ pub takes-first : {S : Type 0} (next : Next S) (s : S) (b : ℕ) (bs : List ℕ)
     → next s b ≡ some o → length (o .bytes) ≤ w → length (marked (o .mark) []) ≤ m → 1 ≤ pushOf next 0 s (b ∷ bs) w m .taken
 unfolding pushOf
 takes-first {S} next s b bs w m o e x y =
-    let d : fits w m (answers 0 s) o ≡ true = ap₂ _&&_ (le-leb (0 + length (o .bytes)) w (omega arith)) (le-leb (0 + length (marked (o .mark) [])) m (omega arith)) in
+    let d : fits w m (answers 0 s) o ≡ true =
+    ap₂ _&&_ (le-leb (0 + length (o .bytes)) w (omega arith)) (le-leb (0 + length (marked (o .mark) [])) m (omega arith)) in
     let q : run next w m (answers 0 s) (b ∷ bs) .taken ≡ run next w m (took (answers 0 s) o) bs .taken =
     ap (λ (a : Answer S). a .taken) (run-takes next w m (answers 0 s) b bs o e d) in
     let i = run-more next w m (took (answers 0 s) o) bs in
@@ -87,25 +93,34 @@ takes-one {S} next s b bs e w m room z = subst (λ (k : ℕ). 1 ≤ pushOf next 
     go : (r : Option (Out S)) → next s b ≡ r → 1 ≤ pushOf next 0 s (b ∷ bs) w m .taken
     go (some o) q = let f = room o q in takes-first next s b bs w m o q (f .0) (f .1)
     go none q =
-        let seven : _≡_ {A = ℕ} 0 7 = sym z ∙ ap (λ (k : ℕ). pushOf next k s (b ∷ bs) w m .number) zero-e ∙ ap (λ (a : Answer S). a .number) (stops-first next s b bs w m q) in
+        let seven : _≡_ {A = ℕ} 0 7 =
+        sym z ∙ ap (λ (k : ℕ). pushOf next k s (b ∷ bs) w m .number) zero-e ∙ ap (λ (a : Answer S). a .number) (stops-first next s b bs w m q) in
         let x : ⊥ = omega arith in absurd x
 
 module _ {S : Type 0} {next : Next S} {s₀ : S} {rule : List ℕ → Seen S} (f : Follows next s₀ rule) where
   -- what is handed out only grows
-  longer : (h t : List ℕ) → accepts next (rule h .state) t ≡ true → (length (rule h .bytes) ≤ length (rule (h ++ t) .bytes)) × (length (rule h .ends) ≤ length (rule (h ++ t) .ends))
-  longer h [] e = let q = ap rule (sym (append-nil h)) in (le-of-eq (ap (λ (v : Seen S). length (v .bytes)) q), le-of-eq (ap (λ (v : Seen S). length (v .ends)) q))
+  longer : (h t : List ℕ) → accepts next (rule h .state) t ≡ true
+      → (length (rule h .bytes) ≤ length (rule (h ++ t) .bytes)) × (length (rule h .ends) ≤ length (rule (h ++ t) .ends))
+  longer h [] e =
+      let q = ap rule (sym (append-nil h)) in
+      (le-of-eq (ap (λ (v : Seen S). length (v .bytes)) q), le-of-eq (ap (λ (v : Seen S). length (v .ends)) q))
   longer h (b ∷ t) e = go (next (rule h .state) b) refl e (λ o q k. longer (h ++ b ∷ []) t k)
     where
       go : (r : Option (Out S)) → next (rule h .state) b ≡ r → acceptsBy r (λ o. accepts next (o .after) t) ≡ true
-          → ((o : Out S) → next (rule h .state) b ≡ some o → accepts next (rule (h ++ b ∷ []) .state) t ≡ true → (length (rule (h ++ b ∷ []) .bytes) ≤ length (rule ((h ++ b ∷ []) ++ t) .bytes)) × (length (rule (h ++ b ∷ []) .ends) ≤ length (rule ((h ++ b ∷ []) ++ t) .ends)))
+          → ((o : Out S) → next (rule h .state) b ≡ some o → accepts next (rule (h ++ b ∷ []) .state) t ≡ true
+          → (length (rule (h ++ b ∷ []) .bytes) ≤ length (rule ((h ++ b ∷ []) ++ t) .bytes))
+          × (length (rule (h ++ b ∷ []) .ends) ≤ length (rule ((h ++ b ∷ []) ++ t) .ends)))
           → (length (rule h .bytes) ≤ length (rule (h ++ b ∷ t) .bytes)) × (length (rule h .ends) ≤ length (rule (h ++ b ∷ t) .ends))
       go none q k ih = absurd (false≢true k)
       go (some o) q k ih =
           let m = f .more h b o q in
           let i = ih o q (ap (λ (v : Seen S). accepts next (v .state) t) m ∙ k) in
-          let g : length (rule (h ++ b ∷ []) .bytes) ≡ length (rule h .bytes) + length (o .bytes) = ap (λ (v : Seen S). length (v .bytes)) m ∙ length-append (rule h .bytes) (o .bytes) in
-          let d : length (rule (h ++ b ∷ []) .ends) ≡ length (rule h .ends) + length (marked (o .mark) (rule h .bytes)) = ap (λ (v : Seen S). length (v .ends)) m ∙ length-append (rule h .ends) _ in
-          subst (λ (l : List ℕ). (length (rule h .bytes) ≤ length (rule l .bytes)) × (length (rule h .ends) ≤ length (rule l .ends))) (append-snoc h b t) (omega (arith, i .0, g), omega (arith, i .1, d))
+          let g : length (rule (h ++ b ∷ []) .bytes) ≡ length (rule h .bytes) + length (o .bytes) =
+          ap (λ (v : Seen S). length (v .bytes)) m ∙ length-append (rule h .bytes) (o .bytes) in
+          let d : length (rule (h ++ b ∷ []) .ends) ≡ length (rule h .ends) + length (marked (o .mark) (rule h .bytes)) =
+          ap (λ (v : Seen S). length (v .ends)) m ∙ length-append (rule h .ends) _ in
+          subst (λ (l : List ℕ). (length (rule h .bytes) ≤ length (rule l .bytes)) × (length (rule h .ends) ≤ length (rule l .ends)))
+          (append-snoc h b t) (omega (arith, i .0, g), omega (arith, i .1, d))
 
   -- what was handed out since h₀, by its lengths
   sizes : (h₀ h : List ℕ) (a : Answer S) → Since f h₀ h a
@@ -120,7 +135,8 @@ module _ {S : Type 0} {next : Next S} {s₀ : S} {rule : List ℕ → Seen S} (f
   -- no front of n bytes that may be taken, from the state s after the bytes h, is longer than c
   abbrev AtMost : ℕ → ℕ → List ℕ → List ℕ → S → List ℕ → ℕ → ℕ → Type 0
   AtMost w m h₀ h s bs c n =
-      n ≤ length bs → accepts next s (take n bs) ≡ true → length (rule (h ++ take n bs) .bytes) ≤ length (rule h₀ .bytes) + w → length (rule (h ++ take n bs) .ends) ≤ length (rule h₀ .ends) + m
+      n ≤ length bs → accepts next s (take n bs) ≡ true → length (rule (h ++ take n bs) .bytes) ≤ length (rule h₀ .bytes) + w → length
+      (rule (h ++ take n bs) .ends) ≤ length (rule h₀ .ends) + m
       → n ≤ c
 
   -- a run, from the answer a after the bytes h
@@ -155,7 +171,8 @@ module _ {S : Type 0} {next : Next S} {s₀ : S} {rule : List ℕ → Seen S} (f
           number-0 = λ e. (z, λ k _. absurd (not-suc-le-zero k));
         }
 
-    long-forbidden : (h : List ℕ) (a : Answer S) (b : ℕ) (bs : List ℕ) → length (a .bytes) ≤ w → length (a .marks) ≤ m → Since f h₀ h a → next (a .after) b ≡ none → Long w m h₀ h a (b ∷ bs) (forbidden a)
+    long-forbidden : (h : List ℕ) (a : Answer S) (b : ℕ) (bs : List ℕ) → length (a .bytes) ≤ w → length (a .marks) ≤ m → Since f h₀ h a
+        → next (a .after) b ≡ none → Long w m h₀ h a (b ∷ bs) (forbidden a)
     long-forbidden h a b bs hb hm q e =
         record {
           count = 0;
@@ -165,13 +182,17 @@ module _ {S : Type 0} {next : Next S} {s₀ : S} {rule : List ℕ → Seen S} (f
           bytes-fit = hb;
           marks-fit = hm;
           since = record { seen-is = ap rule (append-nil h) ∙ q .seen-is };
-          longest = λ n. elim n as (AtMost w m h₀ h (a .after) (b ∷ bs) 0)
-              [ zero ↦ λ _ _ _ _. zero-le | suc n ↦ λ _ k _ _. absurd (false≢true (ap (λ (r : Option (Out S)). acceptsBy r (λ o. accepts next (o .after) (take n bs))) (sym e) ∙ k)) ];
+          longest = λ n. elim n as (AtMost w m h₀ h (a .after) (b ∷ bs) 0) [
+            | zero ↦ λ _ _ _ _. zero-le
+            | suc n ↦ λ _ k _ _. absurd
+                (false≢true (ap (λ (r : Option (Out S)). acceptsBy r (λ o. accepts next (o .after) (take n bs))) (sym e) ∙ k))
+          ];
           number-7 = λ _. (omega arith, e);
           number-0 = λ k. absurd (k refl);
         }
 
-    long-full : (h : List ℕ) (a : Answer S) (b : ℕ) (bs : List ℕ) (o : Out S) → a .number ≡ 0 → length (a .bytes) ≤ w → length (a .marks) ≤ m → Since f h₀ h a → next (a .after) b ≡ some o → fits w m a o ≡ false → Long w m h₀ h a (b ∷ bs) a
+    long-full : (h : List ℕ) (a : Answer S) (b : ℕ) (bs : List ℕ) (o : Out S) → a .number ≡ 0 → length (a .bytes) ≤ w → length (a .marks) ≤ m
+        → Since f h₀ h a → next (a .after) b ≡ some o → fits w m a o ≡ false → Long w m h₀ h a (b ∷ bs) a
     long-full h a b bs o z hb hm q e d =
         record {
           count = 0;
@@ -187,21 +208,30 @@ module _ {S : Type 0} {next : Next S} {s₀ : S} {rule : List ℕ → Seen S} (f
           number-0 = λ _. (z, λ _ k. absurd (let u : _≡_ {A = ℕ} 0 1 = cc in omega arith));
         }
       where
-        over : (n : ℕ) → accepts next (a .after) (b ∷ take n bs) ≡ true → length (rule (h ++ b ∷ take n bs) .bytes) ≤ length (rule h₀ .bytes) + w → length (rule (h ++ b ∷ take n bs) .ends) ≤ length (rule h₀ .ends) + m → ⊥
+        over : (n : ℕ) → accepts next (a .after) (b ∷ take n bs) ≡ true → length (rule (h ++ b ∷ take n bs) .bytes) ≤ length (rule h₀ .bytes) + w
+            → length (rule (h ++ b ∷ take n bs) .ends) ≤ length (rule h₀ .ends) + m → ⊥
         over n k x y =
             let s′ = since-more f h₀ h a b o e q in
             let z′ = sizes h₀ (h ++ b ∷ []) (took a o) s′ in
             let st : rule (h ++ b ∷ []) .state ≡ o .after = ap (λ (v : Seen S). v .state) (s′ .seen-is) in
-            let acc : accepts next (rule (h ++ b ∷ []) .state) (take n bs) ≡ true = ap (λ (s : S). accepts next s (take n bs)) st ∙ ap (λ (r : Option (Out S)). acceptsBy r (λ o. accepts next (o .after) (take n bs))) (sym e) ∙ k in
+            let acc : accepts next (rule (h ++ b ∷ []) .state) (take n bs) ≡ true =
+            ap (λ (s : S). accepts next s (take n bs)) st
+            ∙ ap (λ (r : Option (Out S)). acceptsBy r (λ o. accepts next (o .after) (take n bs))) (sym e) ∙ k in
             let l = longer (h ++ b ∷ []) (take n bs) acc in
             let j : (h ++ b ∷ []) ++ take n bs ≡ h ++ b ∷ take n bs = append-snoc h b (take n bs) in
-            let x′ : length (rule ((h ++ b ∷ []) ++ take n bs) .bytes) ≤ length (rule h₀ .bytes) + w = subst⁻¹ (λ (u : List ℕ). length (rule u .bytes) ≤ length (rule h₀ .bytes) + w) j x in
-            let y′ : length (rule ((h ++ b ∷ []) ++ take n bs) .ends) ≤ length (rule h₀ .ends) + m = subst⁻¹ (λ (u : List ℕ). length (rule u .ends) ≤ length (rule h₀ .ends) + m) j y in
-            let zb : length (rule (h ++ b ∷ []) .bytes) ≡ length (rule h₀ .bytes) + (length (a .bytes) + length (o .bytes)) = z′ .0 ∙ ap (λ (u : ℕ). length (rule h₀ .bytes) + u) (length-append (a .bytes) (o .bytes)) in
-            let zm : length (rule (h ++ b ∷ []) .ends) ≡ length (rule h₀ .ends) + (length (a .marks) + length (marked (o .mark) (a .bytes))) = z′ .1 ∙ ap (λ (u : ℕ). length (rule h₀ .ends) + u) (length-append (a .marks) (marked (o .mark) (a .bytes))) in
-            false≢true (sym d ∙ ap₂ _&&_ (le-leb (length (a .bytes) + length (o .bytes)) w (omega (arith, l .0, zb))) (le-leb (length (a .marks) + length (marked (o .mark) (a .bytes))) m (omega (arith, l .1, zm))))
+            let x′ : length (rule ((h ++ b ∷ []) ++ take n bs) .bytes) ≤ length (rule h₀ .bytes) + w =
+            subst⁻¹ (λ (u : List ℕ). length (rule u .bytes) ≤ length (rule h₀ .bytes) + w) j x in
+            let y′ : length (rule ((h ++ b ∷ []) ++ take n bs) .ends) ≤ length (rule h₀ .ends) + m =
+            subst⁻¹ (λ (u : List ℕ). length (rule u .ends) ≤ length (rule h₀ .ends) + m) j y in
+            let zb : length (rule (h ++ b ∷ []) .bytes) ≡ length (rule h₀ .bytes) + (length (a .bytes) + length (o .bytes)) =
+            z′ .0 ∙ ap (λ (u : ℕ). length (rule h₀ .bytes) + u) (length-append (a .bytes) (o .bytes)) in
+            let zm : length (rule (h ++ b ∷ []) .ends) ≡ length (rule h₀ .ends) + (length (a .marks) + length (marked (o .mark) (a .bytes))) =
+            z′ .1 ∙ ap (λ (u : ℕ). length (rule h₀ .ends) + u) (length-append (a .marks) (marked (o .mark) (a .bytes))) in
+            false≢true (sym d ∙ ap₂ _&&_ (le-leb (length (a .bytes) + length (o .bytes)) w (omega (arith, l .0, zb)))
+            (le-leb (length (a .marks) + length (marked (o .mark) (a .bytes))) m (omega (arith, l .1, zm))))
 
-    long-takes : (h : List ℕ) (a : Answer S) (b : ℕ) (bs : List ℕ) (o : Out S) (r : Answer S) → next (a .after) b ≡ some o → Long w m h₀ (h ++ b ∷ []) (took a o) bs r → Long w m h₀ h a (b ∷ bs) r
+    long-takes : (h : List ℕ) (a : Answer S) (b : ℕ) (bs : List ℕ) (o : Out S) (r : Answer S) → next (a .after) b ≡ some o
+        → Long w m h₀ (h ++ b ∷ []) (took a o) bs r → Long w m h₀ h a (b ∷ bs) r
     long-takes h a b bs o r e l =
         record {
           count = suc (l .count);
@@ -225,12 +255,14 @@ module _ {S : Type 0} {next : Next S} {s₀ : S} {rule : List ℕ → Seen S} (f
             (subst⁻¹ (λ (u : List ℕ). length (rule u .ends) ≤ length (rule h₀ .ends) + m) j y) in
             omega arith
 
-    long : (h : List ℕ) (a : Answer S) (bs : List ℕ) → a .number ≡ 0 → length (a .bytes) ≤ w → length (a .marks) ≤ m → Since f h₀ h a → Long w m h₀ h a bs (run next w m a bs)
+    long : (h : List ℕ) (a : Answer S) (bs : List ℕ) → a .number ≡ 0 → length (a .bytes) ≤ w → length (a .marks) ≤ m → Since f h₀ h a
+        → Long w m h₀ h a bs (run next w m a bs)
     long h a [] z hb hm q = subst⁻¹ (Long w m h₀ h a []) (run-ends next w m a) (long-end h a z hb hm q)
     long h a (b ∷ bs) z hb hm q = go (next (a .after) b) refl (λ o e x y. long (h ++ b ∷ []) (took a o) bs z x y (since-more f h₀ h a b o e q))
       where
         go : (r : Option (Out S)) → next (a .after) b ≡ r
-            → ((o : Out S) → next (a .after) b ≡ some o → length (a .bytes ++ o .bytes) ≤ w → length (a .marks ++ marked (o .mark) (a .bytes)) ≤ m → Long w m h₀ (h ++ b ∷ []) (took a o) bs (run next w m (took a o) bs))
+            → ((o : Out S) → next (a .after) b ≡ some o → length (a .bytes ++ o .bytes) ≤ w → length (a .marks ++ marked (o .mark) (a .bytes)) ≤ m
+            → Long w m h₀ (h ++ b ∷ []) (took a o) bs (run next w m (took a o) bs))
             → Long w m h₀ h a (b ∷ bs) (run next w m a (b ∷ bs))
         go none e ih = subst⁻¹ (Long w m h₀ h a (b ∷ bs)) (run-forbidden next w m a b bs e) (long-forbidden h a b bs hb hm q e)
         go (some o) e ih = fit (fits w m a o) refl
@@ -238,10 +270,16 @@ module _ {S : Type 0} {next : Next S} {s₀ : S} {rule : List ℕ → Seen S} (f
             fit : (c : Bool) → fits w m a o ≡ c → Long w m h₀ h a (b ∷ bs) (run next w m a (b ∷ bs))
             fit false d = subst⁻¹ (Long w m h₀ h a (b ∷ bs)) (run-stops next w m a b bs o e d) (long-full h a b bs o z hb hm q e d)
             fit true d =
-                let x = leb-true (length (a .bytes) + length (o .bytes)) w (and-left (leb (length (a .bytes) + length (o .bytes)) w) (leb (length (a .marks) + length (marked (o .mark) (a .bytes))) m) d) in
-                let y = leb-true (length (a .marks) + length (marked (o .mark) (a .bytes))) m (and-right (leb (length (a .bytes) + length (o .bytes)) w) (leb (length (a .marks) + length (marked (o .mark) (a .bytes))) m) d) in
+                let x =
+                leb-true (length (a .bytes) + length (o .bytes)) w
+                (and-left (leb (length (a .bytes) + length (o .bytes)) w) (leb (length (a .marks) + length (marked (o .mark) (a .bytes))) m) d) in
+                let y =
+                leb-true (length (a .marks) + length (marked (o .mark) (a .bytes))) m
+                (and-right (leb (length (a .bytes) + length (o .bytes)) w) (leb (length (a .marks) + length (marked (o .mark) (a .bytes))) m) d) in
                 subst⁻¹ (Long w m h₀ h a (b ∷ bs)) (run-takes next w m a b bs o e d)
-                (long-takes h a b bs o (run next w m (took a o) bs) e (ih o e (subst⁻¹ (λ (n : ℕ). n ≤ w) (length-append (a .bytes) (o .bytes)) x) (subst⁻¹ (λ (n : ℕ). n ≤ m) (length-append (a .marks) (marked (o .mark) (a .bytes))) y)))
+                (long-takes h a b bs o (run next w m (took a o) bs) e
+                (ih o e (subst⁻¹ (λ (n : ℕ). n ≤ w) (length-append (a .bytes) (o .bytes)) x)
+                (subst⁻¹ (λ (n : ℕ). n ≤ m) (length-append (a .marks) (marked (o .mark) (a .bytes))) y)))
 
   -- A PUSH TAKES THE LONGEST FRONT THAT IT MAY
   pub push-longest : (h chunk : List ℕ) (w m : ℕ) → Longest next rule h chunk w m (pushOf next 0 (rule h .state) chunk w m)
@@ -270,10 +308,12 @@ module _ {S : Type 0} {next : Next S} {s₀ : S} {rule : List ℕ → Seen S} (f
       let no-bytes : rule [] .bytes ≡ [] = ap (λ (v : Seen S). v .bytes) new in
       let no-ends : rule [] .ends ≡ [] = ap (λ (v : Seen S). v .ends) new in
       let a = pushOf next 0 s₀ chunk w m in
-      let l : Longest next rule [] chunk w m a = subst (λ (s : S). Longest next rule [] chunk w m (pushOf next 0 s chunk w m)) start (push-longest [] chunk w m) in
+      let l : Longest next rule [] chunk w m a =
+      subst (λ (s : S). Longest next rule [] chunk w m (pushOf next 0 s chunk w m)) start (push-longest [] chunk w m) in
       let whole : take (length chunk) chunk ≡ chunk = take-length chunk in
       let least : length chunk ≤ a .taken =
-      l .longest (length chunk) (le-refl _) (ap₂ (accepts next) start whole ∙ acc) (rw whole (record { bytes-fit = omega (arith, fb); ends-fit = omega (arith, fe) })) in
+      l .longest (length chunk) (le-refl _) (ap₂ (accepts next) start whole ∙ acc)
+      (rw whole (record { bytes-fit = omega (arith, fb); ends-fit = omega (arith, fe) })) in
       let all : a .taken ≡ length chunk = omega (arith, l .few) in
       let no-7 : a .number ≡ 0 = l .number-0 (λ z. let k = l .number-7 z in let x : ⊥ = omega (arith, k .0) in x) .0 in
       let e : rule chunk ≡ seen (a .after) (rule [] .bytes ++ a .bytes) (rule [] .ends ++ shifted (length (rule [] .bytes)) (a .marks)) =

@@ -1,7 +1,8 @@
--- THERE IS A WAY: rooms that hold what a byte releases take a whole stream that holds no forbidden byte. For every reader and writer whose step gives its rule.
-use Prim.Native.Nat.{ℕ, suc, _+_, _≤_}
+-- THERE IS A WAY: rooms that hold what a byte releases take a whole stream that holds no forbidden byte. For every reader and writer whose step
+-- gives its rule.
+use Prim.Native.Nat.{ℕ, _+_, _≤_}
 use native.Mathlib.Omega.{arith}
-use mathlib.Core.Path.{_≡_, refl, ap, ap₂, sym, _∙_, subst}
+use mathlib.Core.Path.{_≡_, refl, ap, sym, _∙_, subst}
 use mathlib.Core.Bool.{true, false≢true}
 use mathlib.Core.List.{List, [], _∷_, _++_, append-nil}
 use mathlib.Core.Option.{Option, none, some}

@@ -39,7 +39,13 @@ marked c l = cond c (length l ∷ []) []
 -- a byte more is taken
 abbrev pub took : {S : Type 0} → Answer S → Out S → Answer S
 took a o =
-    record { number = a .number; taken = a .taken + 1; bytes = a .bytes ++ o .bytes; marks = a .marks ++ marked (o .mark) (a .bytes); after = o .after }
+    record {
+      number = a .number;
+      taken = a .taken + 1;
+      bytes = a .bytes ++ o .bytes;
+      marks = a .marks ++ marked (o .mark) (a .bytes);
+      after = o .after;
+    }
 
 -- all that a byte releases fits rooms of w bytes and m marks
 abbrev pub fits : {S : Type 0} → ℕ → ℕ → Answer S → Out S → Bool
@@ -147,7 +153,8 @@ pub record Longest {S : Type 0} (next : Next S) (rule : List ℕ → Seen S) (h 
   pub fit : Fits rule h (take (a .taken) chunk) w m
   pub longest : (n : ℕ) → n ≤ length chunk → accepts next (rule h .state) (take n chunk) ≡ true → Fits rule h (take n chunk) w m → n ≤ a .taken
   pub number-7 : a .number ≡ forbiddenByte → (a .taken < length chunk) × (next (a .after) (getD chunk (a .taken) 0) ≡ none)
-  pub number-0 : (a .number ≡ forbiddenByte → ⊥) → (a .number ≡ done) × (a .taken < length chunk → next (a .after) (getD chunk (a .taken) 0) ≡ none → ⊥)
+  pub number-0 : (a .number ≡ forbiddenByte → ⊥)
+      → (a .number ≡ done) × (a .taken < length chunk → next (a .after) (getD chunk (a .taken) 0) ≡ none → ⊥)
 
 -- ---- pushes, and one push; and that there are pushes
 

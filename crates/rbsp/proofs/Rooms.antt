@@ -1,5 +1,5 @@
--- THE ROOM RULE: room 1 takes a byte on reading and room 2 on writing, from any saved state that is not bad; a push with enough room takes everything up
--- to a forbidden byte.
+-- THE ROOM RULE: room 1 takes a byte on reading and room 2 on writing, from any saved state that is not bad; a push with enough room takes
+-- everything up to a forbidden byte.
 use Prim.Native.Nat.{ℕ, zero, suc, _*_, _≤_, zero-le}
 use native.Mathlib.Omega.{arith}
 use native.Mathlib.Nat.{le-refl, zero-mul}
@@ -12,7 +12,6 @@ use lib.ListN.{length, drop}
 use borrow.Author.Tests.{le-ltb}
 use Rattle.desk.specs.Push.{Out, marked, acceptsBy, accepts}
 use Rattle.desk.specs.Search.{trail}
-use Rattle.desk.specs.Zeros.{zerosAfter}
 use Rattle.desk.proofs.Entering.{entry-done}
 use Rattle.desk.proofs.Accepting.{enough-room}
 use Rattle.desk.proofs.Choice.{cond-ind}
@@ -22,7 +21,7 @@ use Rattle.desk.proofs.Ways.{way}
 use Rattle.rbsp.specs.Rule.{escape, Legal, endsThree}
 use Rattle.rbsp.specs.Answer.{ReadPush, WritePush, newWriter}
 use Rattle.rbsp.specs.Promise.{ReadWay, WriteWay}
-use Rattle.rbsp.specs.Step.{takes, next, skipping, badState, readEntry, readerAt, stuffs, escapes, writeEntry, writes, zeros}
+use Rattle.rbsp.specs.Step.{takes, next, skipping, badState, readEntry, readerAt, stuffs, behindThree, goesAlone, escapes, writeEntry, writes}
 use Rattle.rbsp.specs.declared.reader.ParseState.{ParseState}
 use Rattle.rbsp.specs.declared.reader.ParseState.the-variants.{Start, PostThree}
 use Rattle.rbsp.specs.declared.reader.Pushed.{Pushed}
@@ -58,11 +57,7 @@ Few o = (length (o .bytes) ≤ 2) × (length (marked (o .mark) []) ≤ 0)
 out-few : (s : ByteWriter) (b : ℕ) (o : Out ByteWriter) → escapes s b ≡ some o → Few o
 out-few s b o = go (stuffs (s .«zero_count») b)
   where
-    go : (c : Bool)
-        → cond c (some (record { after = zeros (zerosAfter 0 b); bytes = 3 ∷ b ∷ []; mark = false }))
-        (some (record { after = zeros (zerosAfter (s .«zero_count») b); bytes = b ∷ []; mark = false }))
-        ≡ some o
-        → Few o
+    go : (c : Bool) → cond c (some (behindThree b)) (some (goesAlone (s .«zero_count») b)) ≡ some o → Few o
     go true e = subst Few (Option·some-injective _ o e) (omega arith, le-refl 0)
     go false e = subst Few (Option·some-injective _ o e) (omega arith, le-refl 0)
 
@@ -74,13 +69,17 @@ never-forbidden s b = go (stuffs (s .«zero_count») b) _ _
     go false x y e = let z : _≡_ {A = ℕ} 0 1 = cc in omega arith
 
 -- A PUSH OF THE WRITER answers 0, 1 or 2, by its entry checks alone
-pub write-number : (s : ByteWriter) (chunk out out′ : List ℕ) (r : Written) → WritePush s chunk out out′ r → r .number ≡ writeEntry s (length chunk) (length out) 0
+pub write-number : (s : ByteWriter) (chunk out out′ : List ℕ) (r : Written) → WritePush s chunk out out′ r
+    → r .number ≡ writeEntry s (length chunk) (length out) 0
 write-number s chunk out out′ r o = o .number-is ∙ never-7 escapes never-forbidden (writeEntry s (length chunk) (length out) 0) s chunk (length out) 0
 
 -- ROOM 1 TAKES A BYTE of what is lent, wherever the answer is 0
-pub read-one : (s : ParseState) (b : ℕ) (bs out out′ : List ℕ) (r : Pushed) → ReadPush s (b ∷ bs) out out′ r → r .number ≡ 0 → 1 ≤ length out → 1 ≤ r .taken
+pub read-one : (s : ParseState) (b : ℕ) (bs out out′ : List ℕ) (r : Pushed) → ReadPush s (b ∷ bs) out out′ r → r .number ≡ 0 → 1 ≤ length out
+    → 1 ≤ r .taken
 read-one s b bs out out′ r o z h =
-    let n = takes-one next s b bs (readEntry s (length (b ∷ bs)) (length out) 0) (length out) 0 (λ x e. let f = next-few s b x e in let k = f .0 in (omega arith, f .1)) (sym (o .number-is) ∙ z) in
+    let n =
+    takes-one next s b bs (readEntry s (length (b ∷ bs)) (length out) 0) (length out) 0
+    (λ x e. let f = next-few s b x e in let k = f .0 in (omega arith, f .1)) (sym (o .number-is) ∙ z) in
     omega (arith, o .taken-is)
 
 -- and no room is wanted where the byte is removed or skipped
@@ -92,12 +91,16 @@ read-nothing s s′ b bs out out′ r o z e =
   where
     released-none : (x : Out ParseState) → next s b ≡ some x → (length (x .bytes) ≤ length out) × (length (marked (x .mark) []) ≤ 0)
     released-none x q =
-        subst (λ (y : Out ParseState). (length (y .bytes) ≤ length out) × (length (marked (y .mark) []) ≤ 0)) (Option·some-injective (takes s′ []) x (sym e ∙ q)) (zero-le, zero-le)
+        subst (λ (y : Out ParseState). (length (y .bytes) ≤ length out) × (length (marked (y .mark) []) ≤ 0))
+        (Option·some-injective (takes s′ []) x (sym e ∙ q)) (zero-le, zero-le)
 
 -- ROOM 2 TAKES A BYTE on writing
-pub write-one : (s : ByteWriter) (b : ℕ) (bs out out′ : List ℕ) (r : Written) → WritePush s (b ∷ bs) out out′ r → r .number ≡ 0 → 2 ≤ length out → 1 ≤ r .taken
+pub write-one : (s : ByteWriter) (b : ℕ) (bs out out′ : List ℕ) (r : Written) → WritePush s (b ∷ bs) out out′ r → r .number ≡ 0 → 2 ≤ length out
+    → 1 ≤ r .taken
 write-one s b bs out out′ r o z h =
-    let n = takes-one escapes s b bs (writeEntry s (length (b ∷ bs)) (length out) 0) (length out) 0 (λ x e. let f = out-few s b x e in let k = f .0 in (omega arith, f .1)) (sym (o .number-is) ∙ z) in
+    let n =
+    takes-one escapes s b bs (writeEntry s (length (b ∷ bs)) (length out) 0) (length out) 0
+    (λ x e. let f = out-few s b x e in let k = f .0 in (omega arith, f .1)) (sym (o .number-is) ∙ z) in
     omega (arith, o .taken-is)
 
 -- ---- everything, behind any bytes h
@@ -110,7 +113,8 @@ pub read-everything : (k : ℕ) (h chunk out out′ : List ℕ) (r : Pushed) →
     → length chunk ≤ length out → r .taken ≡ length chunk
 read-everything k h chunk out out′ r o z f =
     o .taken-is
-    ∙ enough-room (read-follows k) 1 0 next-few h chunk (readEntry (readerAt k h) (length chunk) (length out) 0) (length out) 0 (omega arith) (none-wanted chunk)
+    ∙ enough-room (read-follows k) 1 0 next-few h chunk (readEntry (readerAt k h) (length chunk) (length out) 0) (length out) 0 (omega arith)
+    (none-wanted chunk)
     (sym (o .number-is) ∙ z)
 
 -- TWICE AS MUCH ROOM AS BYTES, on writing
@@ -135,11 +139,13 @@ no-byte-forbidden s (b ∷ bs) = go (escapes s b) refl (λ o. no-byte-forbidden 
 -- EVERY LEGAL LIST IS TAKEN IN ROOM 1
 pub read-way : (skip : ℕ) (stream : List ℕ) → Legal (drop skip stream) → ReadWay skip stream
 read-way skip stream l =
-    way (read-follows skip) readEntry stream (0 ∷ []) [] (λ h. entry-done (1 ∷ 1 ∷ 0 ∷ []) (badState (readerAt skip h)) (omega arith, (omega arith, (zero-le, tt))) (read-good skip h))
+    way (read-follows skip) readEntry stream (0 ∷ []) []
+    (λ h. entry-done (1 ∷ 1 ∷ 0 ∷ []) (badState (readerAt skip h)) (omega arith, (omega arith, (zero-le, tt))) (read-good skip h))
     (λ h. next-few (readerAt skip h)) (legal-accepts skip stream (legal-none (drop skip stream) l))
 
 -- EVERY LIST IS WRITTEN IN ROOM 2
 pub write-way : (stream : List ℕ) → WriteWay stream
 write-way stream =
-    way write-follows writeEntry stream (0 ∷ 0 ∷ []) [] (λ h. entry-done (1 ∷ 2 ∷ 0 ∷ []) (ltb 2 (writes h .state .«zero_count»)) (omega arith, (omega arith, (zero-le, tt))) (write-good h))
+    way write-follows writeEntry stream (0 ∷ 0 ∷ []) []
+    (λ h. entry-done (1 ∷ 2 ∷ 0 ∷ []) (ltb 2 (writes h .state .«zero_count»)) (omega arith, (omega arith, (zero-le, tt))) (write-good h))
     (λ h. out-few (writes h .state)) (no-byte-forbidden newWriter stream)

@@ -16,7 +16,7 @@ use Rattle.desk.proofs.Choice.{cond-ind}
 use Rattle.desk.proofs.Room.{front}
 use Rattle.desk.proofs.Search.{none≢some}
 use Rattle.rbsp.specs.Rule.{unescape, Legal, firstBreak}
-use Rattle.rbsp.specs.Answer.{Decoding, decodeKept, decodeTail, decodeNal, decodeOf, numberOf, valueOf, Decodes, shownOf}
+use Rattle.rbsp.specs.Answer.{Decoding, fills, decodeKept, decodeTail, decodeNal, decodeOf, numberOf, valueOf, Decodes, shownOf}
 use Rattle.rbsp.specs.Promise.{RoomFor, DecodeWay}
 use Rattle.rbsp.specs.declared.nal.Decoded.{Decoded}
 use Rattle.rbsp.specs.declared.nal.Decoded.the-variants.{Own, Filled, TooLong, Empty, Forbidden, NoRoom}
@@ -27,7 +27,7 @@ use Rattle.rbsp.proofs.Unescaping.{unescape-none}
 -- what a NAL's answer can be
 data Case (nal : List ℕ) : Decoding → Type 0 where
   own : unescape (drop 1 nal) ≡ drop 1 nal → Case nal (record { number = 0; value = none; bytes = [] })
-  filled : Case nal (record { number = 0; value = some (length (unescape (drop 1 nal))); bytes = unescape (drop 1 nal) })
+  filled : Case nal (fills (drop 1 nal))
   refused : (r : Decoded) → (numberOf r ≡ 0 → ⊥) → Case nal (record { number = numberOf r; value = valueOf r; bytes = [] })
 
 no : {n : ℕ} → suc n ≡ 0 → ⊥
@@ -50,7 +50,8 @@ case-of nal w = cond-ind (Case nal) (anyOver (length nal ∷ w ∷ [])) _ (decod
     entered (header ∷ tail) = by-break header tail (firstBreak tail)
 
 -- AN OUTCOME WITH NUMBER 0, THEN `shown`, IS `unescape` OF THE NAL BEHIND ITS HEADER
-pub shows-unescaped : (nal room room′ : List ℕ) (r : Decoded) → Decodes nal room room′ r → numberOf r ≡ 0 → shownOf nal room′ r ≡ unescape (drop 1 nal)
+pub shows-unescaped : (nal room room′ : List ℕ) (r : Decoded) → Decodes nal room room′ r → numberOf r ≡ 0
+    → shownOf nal room′ r ≡ unescape (drop 1 nal)
 shows-unescaped nal room room′ r d = go (case-of nal (length room)) r (d .number-is) (d .value-is) (d .room-is)
   where
     go : {a : Decoding} → Case nal a → (r : Decoded) → numberOf r ≡ a .number → valueOf r ≡ a .value → room′ ≡ written room (a .bytes)
@@ -75,7 +76,8 @@ pub decode-done : (nal room room′ : List ℕ) (r : Decoded) → Decodes nal ro
 decode-done [] room room′ r d some-nal nf rf l h = absurd (let x : ⊥ = omega arith in x)
 decode-done (header ∷ tail) room room′ r d some-nal nf rf l h = d .number-is ∙ go (eqb (length (unescape tail)) (length tail)) refl h
   where
-    go : (c : Bool) → eqb (length (unescape tail)) (length tail) ≡ c → RoomFor (header ∷ tail) room → decodeOf (header ∷ tail) (length room) .number ≡ 0
+    go : (c : Bool) → eqb (length (unescape tail)) (length tail) ≡ c → RoomFor (header ∷ tail) room
+        → decodeOf (header ∷ tail) (length room) .number ≡ 0
     go true q h = ap (λ (a : Decoding). a .number) (decode-own (length room) header tail nf rf (legal-none tail l) (eqb-true _ _ q))
     go false q (inl fits) =
         ap (λ (a : Decoding). a .number) (decode-filled (length room) header tail nf rf (legal-none tail l) (eqb-false _ _ q) fits)

@@ -21,7 +21,8 @@ next-skip (suc k) b {s} h e = let q : suc k - 1 ≡ k = omega arith in ap (λ (x
 
 -- a byte above 03 resets the count
 pub does-other : (z b : ℕ) → 3 < b → Does z b (record { after = zeros 0; count = 1 })
-does-other z b h = record { next-is = simp (above-3 b h, and-no (two z), not-0 b (λ e. let x : ⊥ = omega arith in x)); least = omega arith; most-two = omega arith }
+does-other z b h =
+    record { next-is = simp (above-3 b h, and-no (two z), not-0 b (λ e. let x : ⊥ = omega arith in x)); least = omega arith; most-two = omega arith }
   where
     and-no : (c : Bool) → (c && false) ≡ false
     and-no true = refl

@@ -4,7 +4,7 @@ use native.Mathlib.Omega.{arith}
 use mathlib.Core.Path.{_≡_, refl, ap, ap₂, sym, _∙_, subst}
 use mathlib.Core.Bool.{false}
 use mathlib.Core.List.{List, [], _∷_, _++_}
-use mathlib.Core.Option.{none, some}
+use mathlib.Core.Option.{none}
 use lib.ListN.{length, take, drop, getD, length-take, length-drop}
 use lib.Seq.{getD-take, getD-drop, split-at, length-take-le, take-length, drop-cons}
 use Rattle.desk.specs.Numbers.{most}
@@ -31,11 +31,15 @@ use Rattle.rbsp.proofs.Legality.{forbidden-broken, accepts-legal}
 use Rattle.rbsp.proofs.Rooms.{new-good, read-good}
 use Rattle.rbsp.proofs.Unescaping.{reader-new, read-follows}
 
-unbroken-so-far : (skip : ℕ) {stream : List ℕ} {n : ℕ} {s : ParseState} {given ends : List ℕ} → Reads skip stream n s given ends → firstBreak (drop skip (take n stream)) ≡ none
-unbroken-so-far skip {stream} {n} p = accepts-legal skip (take n stream) (ap (λ (x : ParseState). accepts next x (take n stream)) (sym (reader-new skip)) ∙ pushes-accepted (read-follows skip) p)
+unbroken-so-far : (skip : ℕ) {stream : List ℕ} {n : ℕ} {s : ParseState} {given ends : List ℕ} → Reads skip stream n s given ends
+    → firstBreak (drop skip (take n stream)) ≡ none
+unbroken-so-far skip {stream} {n} p =
+    accepts-legal skip (take n stream)
+    (ap (λ (x : ParseState). accepts next x (take n stream)) (sym (reader-new skip)) ∙ pushes-accepted (read-follows skip) p)
 
 -- DELIVERED BYTES ARE `unescape` OF WHAT WAS TAKEN PAST THE SKIP, after each push
-pub reading : (skip : ℕ) {stream : List ℕ} {n : ℕ} {s : ParseState} {given ends : List ℕ} → Reads skip stream n s given ends → Reading skip stream n s given
+pub reading : (skip : ℕ) {stream : List ℕ} {n : ℕ} {s : ParseState} {given ends : List ℕ} → Reads skip stream n s given ends
+    → Reading skip stream n s given
 reading skip {stream} {n} {s} {given} {ends} p =
     let c = pushes-cut (read-follows skip) p in
     let unmarked : ends ≡ [] = sym (ap (λ (v : Seen ParseState). v .ends) (c .rule-gives)) in
@@ -45,7 +49,8 @@ reading skip {stream} {n} {s} {given} {ends} p =
       state = sym (ap (λ (v : Seen ParseState). v .state) (c .rule-gives));
       legal = none-legal (drop skip (take n stream)) (unbroken-so-far skip p);
       at-once = λ out out′ r o nf rf hold.
-          at-once (read-follows skip) (subst (Reads skip stream n s given) unmarked p) out [] out′ [] (r .number) (r .taken) (r .written) 0 (r .state .state) o
+          at-once (read-follows skip) (subst (Reads skip stream n s given) unmarked p) out [] out′ [] (r .number) (r .taken) (r .written) 0
+          (r .state .state) o
           (entry-done (n ∷ length out ∷ 0 ∷ []) (badState (skipping skip)) (nf, (rf, (zero-le, tt))) (new-good skip)) hold zero-le;
     }
 
@@ -57,7 +62,8 @@ next-byte stream n k t h = getD-take k (drop n stream) t 0 (omega (arith, length
 entered : (s : ParseState) (chunk : List ℕ) (w m e : ℕ) → e ≤ 2 → pushOf next e s chunk w m .number ≡ 7 → e ≡ 0
 entered s chunk w m zero h z = refl
 entered s chunk w m (suc e) h z =
-    let q : suc e ≡ 7 = sym (ap (λ (a : Answer ParseState). a .number) (push-refused next (suc e) s chunk w m (λ f. let x : ⊥ = omega arith in x))) ∙ z in
+    let q : suc e ≡ 7 =
+    sym (ap (λ (a : Answer ParseState). a .number) (push-refused next (suc e) s chunk w m (λ f. let x : ⊥ = omega arith in x))) ∙ z in
     let x : ⊥ = omega arith in absurd x
 
 -- a push that answers 7 stopped before a byte that is forbidden in the state it left
@@ -83,7 +89,8 @@ module _ (skip : ℕ) {stream : List ℕ} {n : ℕ} {s : ParseState} {given ends
         let a = pushOf next 0 (readerAt skip h) chunk w m in
         let same : pushBy next readEntry s chunk w m ≡ a = ap₂ (λ (x : ℕ) (y : ParseState). pushOf next x y chunk w m) e0 (reading skip p .state) in
         let t : taken ≡ a .taken = o .taken-is ∙ ap (λ (x : Answer ParseState). x .taken) same in
-        let seven = push-longest (read-follows skip) h chunk w m .number-7 (sym (ap (λ (x : Answer ParseState). x .number) same) ∙ sym (o .number-is) ∙ z) in
+        let seven =
+        push-longest (read-follows skip) h chunk w m .number-7 (sym (ap (λ (x : Answer ParseState). x .number) same) ∙ sym (o .number-is) ∙ z) in
         let here : taken < length chunk = omega (arith, seven .0) in
         let left : s′ ≡ a .after = o .state-is ∙ ap (λ (x : Answer ParseState). x .after) same in
         let byte : getD stream (n + taken) 0 ≡ getD chunk (a .taken) 0 = sym (next-byte stream n k taken here) ∙ ap (λ (x : ℕ). getD chunk x 0) t in
@@ -100,7 +107,9 @@ module _ (skip : ℕ) {stream : List ℕ} {n : ℕ} {s : ParseState} {given ends
     seventh =
         let r = reading skip more in
         let b = getD stream (n + taken) 0 in
-        let f = forbidden-broken skip (take (n + taken) stream) b (drop (suc (n + taken)) stream) (unbroken-so-far skip more) (ap (λ (x : ParseState). next x b) (sym (r .state)) ∙ stopped .stops) in
+        let f =
+        forbidden-broken skip (take (n + taken) stream) b (drop (suc (n + taken)) stream) (unbroken-so-far skip more)
+        (ap (λ (x : ParseState). next x b) (sym (r .state)) ∙ stopped .stops) in
         let at = f .place-is in
         record {
           place = f .place;
@@ -117,14 +126,16 @@ module _ (skip : ℕ) {stream : List ℕ} {n : ℕ} {s : ParseState} {given ends
         ap (take (suc k₂)) (drop-cons stream (n + taken) 0 (stopped .inside)) in
         let good : badState s′ ≡ false = ap badState (reading skip more .state) ∙ read-good skip (take (n + taken) stream) in
         let enters : readEntry s′ (length (take (suc k₂) rest)) (length out₂) 0 ≡ 0 =
-        entry-done (length (take (suc k₂) rest) ∷ length out₂ ∷ 0 ∷ []) (badState s′) (omega (arith, length-take (suc k₂) rest), (rf, (zero-le, tt))) good in
+        entry-done (length (take (suc k₂) rest) ∷ length out₂ ∷ 0 ∷ []) (badState s′)
+        (omega (arith, length-take (suc k₂) rest), (rf, (zero-le, tt))) good in
         subst (λ (a : Answer ParseState). ReadGave a out₂ out₂′ r)
         (ap₂ (λ (x : ℕ) (l : List ℕ). pushOf next x s′ l (length out₂) 0) enters chunk
         ∙ stops-first next s′ (getD stream (n + taken) 0) (take k₂ (drop (suc (n + taken)) stream)) (length out₂) 0 (stopped .stops))
         o₂
 
 -- A LEGAL LIST MEETS NO 7
-pub legal-no-7 : (skip : ℕ) {stream : List ℕ} {n : ℕ} {s : ParseState} {given ends : List ℕ} → Legal (drop skip stream) → Reads skip stream n s given ends
+pub legal-no-7 : (skip : ℕ) {stream : List ℕ} {n : ℕ} {s : ParseState} {given ends : List ℕ} → Legal (drop skip stream)
+    → Reads skip stream n s given ends
     → (k : ℕ) (out marks out′ marks′ : List ℕ) (number taken wrote markedN : ℕ) (s′ : ParseState)
     → PushesOn next readEntry stream n s k out marks out′ marks′ number taken wrote markedN s′
     → number ≡ 7 → ⊥
@@ -132,7 +143,8 @@ legal-no-7 skip {stream} l p k out marks out′ marks′ number taken wrote mark
     none≢some (sym (legal-none (drop skip stream) l) ∙ seventh skip p k out marks out′ marks′ number taken wrote markedN s′ o z .breaks)
 
 -- and a list that was taken to its end is legal
-pub taken-legal : (skip : ℕ) {stream : List ℕ} {s : ParseState} {given ends : List ℕ} → Reads skip stream (length stream) s given ends → Legal (drop skip stream)
+pub taken-legal : (skip : ℕ) {stream : List ℕ} {s : ParseState} {given ends : List ℕ} → Reads skip stream (length stream) s given ends
+    → Legal (drop skip stream)
 taken-legal skip {stream} p = subst (λ (l : List ℕ). Legal (drop skip l)) (take-length stream) (reading skip p .legal)
 
 -- WHAT IS WRITTEN IS `escape` OF WHAT WAS TAKEN, after each push

@@ -42,7 +42,8 @@ newWriter = zeros 0
 
 -- ---- a whole NAL
 
--- the number, what goes with it (the index of the forbidden byte, or the count of bytes that the room was filled with), and the bytes that are written
+-- the number, what goes with it (the index of the forbidden byte, or the count of bytes that the room was filled with), and the bytes that are
+-- written
 pub record Decoding : Type 0 where
   pub number : ℕ
   pub value : Option ℕ
@@ -51,11 +52,14 @@ pub record Decoding : Type 0 where
 abbrev pub refuses : ℕ → Decoding
 refuses n = record { number = n; value = none; bytes = [] }
 
+-- what was kept of the tail fills the front of the room
+abbrev pub fills : List ℕ → Decoding
+fills tail = record { number = done; value = some (length (unescape tail)); bytes = unescape tail }
+
 -- a tail that holds no forbidden byte, for a room of w bytes: its own where nothing was removed, else it fills the front of the room
 abbrev pub decodeKept : ℕ → List ℕ → Option ℕ → Decoding
 decodeKept w tail none = record { number = done; value = none; bytes = [] }
-decodeKept w tail (some i) =
-    cond (ltb w (length (unescape tail))) (refuses noRoom) (record { number = done; value = some (length (unescape tail)); bytes = unescape tail })
+decodeKept w tail (some i) = cond (ltb w (length (unescape tail))) (refuses noRoom) (fills tail)
 
 -- by the first break of the tail; the header is byte 0 of the NAL
 abbrev pub decodeTail : ℕ → List ℕ → Option ℕ → Decoding

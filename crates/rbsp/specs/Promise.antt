@@ -27,14 +27,15 @@ Writes stream n s given ends = Pushes escapes writeEntry newWriter stream n s gi
 
 -- ---- what pushes come to
 
--- ONE PUSH from a new reader, lent those n bytes and room for what was delivered, within the limit: it takes them all, and leaves the same state and bytes
+-- ONE PUSH from a new reader, lent those n bytes and room for what was delivered, within the limit: it takes them all, and leaves the same state and
+-- bytes
 abbrev pub ReadsAtOnce : ℕ → List ℕ → ℕ → ParseState → List ℕ → Type 0
 ReadsAtOnce skip stream n s given =
     (out out′ : List ℕ) (r : Pushed) → ReadPush (skipping skip) (take n stream) out out′ r
     → n ≤ most → length out ≤ most → length given ≤ length out → ReadGave (cameTo n s given []) out out′ r
 
--- what was delivered is the unescape of what was taken past the skipped bytes, the state is fixed by the bytes taken, what was taken is legal, and one push
--- comes to the same
+-- what was delivered is the unescape of what was taken past the skipped bytes, the state is fixed by the bytes taken, what was taken is legal, and
+-- one push comes to the same
 pub record Reading (skip : ℕ) (stream : List ℕ) (n : ℕ) (s : ParseState) (given : List ℕ) : Type 0 where
   pub within : n ≤ length stream
   pub bytes : given ≡ unescape (drop skip (take n stream))
@@ -42,8 +43,8 @@ pub record Reading (skip : ℕ) (stream : List ℕ) (n : ℕ) (s : ParseState) (
   pub legal : Legal (drop skip (take n stream))
   pub at-once : ReadsAtOnce skip stream n s given
 
--- a 7 behind n bytes taken, with `taken` more taken by its push: byte n + taken of the stream is the last of the first window past the skipped bytes that
--- breaks a prohibition
+-- a 7 behind n bytes taken, with `taken` more taken by its push: byte n + taken of the stream is the last of the first window past the skipped bytes
+-- that breaks a prohibition
 pub record Seventh (skip : ℕ) (stream : List ℕ) (n taken : ℕ) : Type 0 where
   pub place : ℕ
   pub place-is : n + taken ≡ skip + place
@@ -55,8 +56,8 @@ WritesAtOnce stream n s given =
     (out out′ : List ℕ) (r : Written) → WritePush newWriter (take n stream) out out′ r
     → n ≤ most → length out ≤ most → length given ≤ length out → WriteGave (cameTo n s given []) out out′ r
 
--- what was written is the escape of what was taken; it is legal, so it never holds 00 00 followed by 00, 01 or 02; it unescapes to what was taken; and one
--- push comes to the same
+-- what was written is the escape of what was taken; it is legal, so it never holds 00 00 followed by 00, 01 or 02; it unescapes to what was taken;
+-- and one push comes to the same
 pub record Writing (stream : List ℕ) (n : ℕ) (s : ByteWriter) (given : List ℕ) : Type 0 where
   pub within : n ≤ length stream
   pub bytes : given ≡ escape (take n stream)

@@ -6,7 +6,7 @@ use mathlib.Core.Bool.{Bool, true, false, _&&_}
 use mathlib.Core.List.{List, [], _∷_, _++_, append-nil, map}
 use mathlib.Core.Logic.{_⊎_, inl, inr}
 use mathlib.Core.Option.{none}
-use lib.ListN.{length, take, drop, length-map}
+use lib.ListN.{length, drop, length-map}
 use lib.Seq.{take-length, take-at, drop-at}
 use Rattle.desk.specs.Search.{is0, upTo1, upTo2, stands, first, trail}
 use Rattle.desk.proofs.Bytes.{not-0}
@@ -68,7 +68,8 @@ allowed u =
     record {
       no-code = header-none (p .header) (u .escaped) z (no-three-none (u .escaped) (w .legal .no-three));
       no-last-zero =
-          header-trail (p .header) (u .escaped) z (ap trail (w .bytes ∙ ap escape (take-length (p .rbsp))) ∙ escape-trail (p .rbsp) (p .no-last-zero));
+          header-trail (p .header) (u .escaped) z
+          (ap trail (w .bytes ∙ ap escape (take-length (p .rbsp))) ∙ escape-trail (p .rbsp) (p .no-last-zero));
     }
 
 -- ---- the stream by the syntax table of B.1.1
@@ -103,7 +104,8 @@ cut-joined : (k : ℕ) (us : List (List ℕ)) → cutAt k (endsFrom k us) (joine
 cut-joined k [] = refl
 cut-joined k (u ∷ us) =
     let n : k + length u - k ≡ length u = omega arith in
-    rw n (ap₂ {C = List (List ℕ)} (λ a b. a ∷ b) (take-at u (joined us) (length u) refl) (ap (cutAt (k + length u) (endsFrom (k + length u) us)) (drop-at u (joined us) (length u) refl) ∙ cut-joined (k + length u) us))
+    rw n (ap₂ {C = List (List ℕ)} (λ a b. a ∷ b) (take-at u (joined us) (length u) refl)
+    (ap (cutAt (k + length u) (endsFrom (k + length u) us)) (drop-at u (joined us) (length u) refl) ∙ cut-joined (k + length u) us))
 
 ends-count : (k : ℕ) (us : List (List ℕ)) → length (endsFrom k us) ≡ length us
 ends-count k [] = refl
