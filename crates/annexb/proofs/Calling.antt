@@ -70,8 +70,9 @@ module _ {spans : List Span} {h : List ℕ} {s : AnnexBReader} {g e : List ℕ} 
     after-reset z =
         let a = resetAnswer s (length room) (length marks) in
         let c =
-        subst (λ (x : AnnexBReader). resetAnswer x (length room) (length marks) .number ≡ 0 → Completes (frame h)
-        (resetAnswer x (length room) (length marks))) state-is
+        subst
+        (λ (x : AnnexBReader). resetAnswer x (length room) (length marks) .number ≡ 0 → Completes (frame h) (resetAnswer x (length room) (length marks)))
+        state-is
         (reset-completes (frame h) (length room) (length marks)) (sym (o .number-is) ∙ z) in
         record {
           closed-spans = (

@@ -10,14 +10,14 @@ use lib.ListN.{length, replicate, length-append, length-replicate}
 use borrow.Author.Tests.{le-ltb}
 use Rattle.desk.specs.Search.{is0, is1, upTo1}
 use Rattle.desk.specs.Zeros.{two}
-use Rattle.desk.specs.Push.{Out, Answer, answers, marked, pushOf, Pushes, shifted, Seen, seen, Cut, accepts, Longest}
+use Rattle.desk.specs.Push.{Out, Answer, marked, pushOf, Pushes, shifted, Seen, seen, Cut, accepts, Longest}
 use Rattle.desk.proofs.Choice.{cond-ind}
 use Rattle.desk.proofs.Cutting.{pushes-cut}
 use Rattle.desk.proofs.Entering.{entry-done}
 use Rattle.desk.proofs.Lists.{trail-few}
 use Rattle.desk.proofs.Once.{at-once}
 use Rattle.desk.proofs.Restarting.{restart}
-use Rattle.desk.proofs.Taking.{push-refused, push-entered, never-7, push-longest, takes-first}
+use Rattle.desk.proofs.Taking.{push-entered, never-7, push-longest, takes-first}
 use Rattle.desk.proofs.Unique.{one-outcome}
 use Rattle.desk.proofs.Ways.{way}
 use Rattle.annexb.specs.declared.AnnexBReader.{AnnexBReader}
@@ -127,11 +127,6 @@ frame-way s₀ k stream =
     held h = trail-few (frameFrom (s₀ .«in_unit») (replicate (s₀ .zeros) 0 ++ h) .rest)
 
 -- ---- numbers
-
--- a refused push changes nothing
-pub push-kept : (s : AnnexBReader) (chunk : List ℕ) (w m : ℕ) → (entering s (length chunk) w m ≡ 0 → ⊥)
-    → pushAnswer s chunk w m ≡ answers (entering s (length chunk) w m) s
-push-kept s chunk w m h = push-refused stepping (entering s (length chunk) w m) s chunk w m h
 
 -- a push answers 0, 1 or 2, by its entry checks alone
 pub push-number : (s : AnnexBReader) (chunk : List ℕ) (w m : ℕ) → pushAnswer s chunk w m .number ≡ entering s (length chunk) w m

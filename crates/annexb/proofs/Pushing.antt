@@ -17,7 +17,7 @@ use Rattle.desk.proofs.Pushing.{wrote, Going, sofar, going-more, gives, gives-r
 use Rattle.annexb.specs.declared.AnnexBReader.{AnnexBReader}
 use Rattle.annexb.specs.declared.Pushed.{Pushed}
 use Rattle.annexb.specs.declared.Stepped.{Stepped}
-use Rattle.annexb.specs.Answer.{entering, pushAnswer, Gave, gave, alone}
+use Rattle.annexb.specs.Answer.{entering, FramePush, gave, alone}
 use Rattle.annexb.specs.Step.{step, stepping, released, Does}
 use Rattle.annexb.proofs.Stepping.{step-few}
 
@@ -33,7 +33,7 @@ zeros-passed ns z n e q = ltb-false 2 z (entry-passed ns (ltb 2 z) (sym e ∙ q)
 -- a push that the entry checks refuse
 pub push-refused : (s : AnnexBReader) (chunk out marks : List ℕ) {n : ℕ} {r : Pushed} → n ≡ entering s (length chunk) (length out) (length marks)
     → (n ≡ 0 → ⊥) → r ≡ alone n s
-    → Gave (pushAnswer s chunk (length out) (length marks)) out marks out marks r
+    → FramePush s chunk out marks out marks r
 push-refused s chunk out marks {n} e h q = rw (q, ← e) (gives-refused stepping n s chunk out marks h)
 
 mark-is : (c : Bool) (k w : ℕ) (l : List ℕ) → k ≡ cond c 1 0 → length l ≡ w → replicate k w ≡ marked c l
@@ -52,7 +52,7 @@ pub push-gives : {chunk out₀ marks₀ : List ℕ} {s₀ : AnnexBReader} {out m
     → Reading chunk out₀ marks₀ s₀ out marks s t w m
     → {n : ℕ} {r : Pushed} → n ≡ entering s₀ (length chunk) (length out₀) (length marks₀) → n ≡ 0 → r ≡ gave t w m s
     → run stepping (length out₀) (length marks₀) (answers 0 s₀) chunk ≡ sofar out marks s t w m
-    → Gave (pushAnswer s₀ chunk (length out₀) (length marks₀)) out₀ marks₀ out marks r
+    → FramePush s₀ chunk out₀ marks₀ out marks r
 push-gives {chunk} {out₀} {marks₀} {s₀} i e z q k = rw q (gives (i .going) (entering s₀ (length chunk) (length out₀) (length marks₀)) (sym e ∙ z) 0 k)
 
 module _ {chunk out₀ marks₀ : List ℕ} {s₀ : AnnexBReader} {out marks : List ℕ} {s : AnnexBReader} {t w m : ℕ}

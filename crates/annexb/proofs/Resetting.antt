@@ -12,11 +12,11 @@ use Rattle.desk.proofs.Pushing.{gives-alone}
 use Rattle.annexb.specs.declared.AnnexBReader.{AnnexBReader}
 use Rattle.annexb.specs.declared.Pushed.{Pushed}
 use Rattle.annexb.specs.Seen.{new}
-use Rattle.annexb.specs.Answer.{entering, closing, resetAnswer, Gave, gave, alone}
+use Rattle.annexb.specs.Answer.{entering, closing, resetAnswer, Gave, FrameReset, gave, alone}
 
 module _ (s : AnnexBReader) (out marks : List ℕ) {n : ℕ} (e : n ≡ entering s 0 (length out) (length marks)) where
   abbrev Resets : List ℕ → List ℕ → Pushed → Type 0
-  Resets out′ marks′ r = Gave (resetAnswer s (length out) (length marks)) out marks out′ marks′ r
+  Resets out′ marks′ r = FrameReset s out marks out′ marks′ r
 
   pub reset-refused : (n ≡ 0 → ⊥) → Resets out marks (alone n s)
   unfolding resetAnswer

@@ -135,9 +135,8 @@ module _ {S : Type 0} {next : Next S} {s₀ : S} {rule : List ℕ → Seen S} (f
   -- no front of n bytes that may be taken, from the state s after the bytes h, is longer than c
   abbrev AtMost : ℕ → ℕ → List ℕ → List ℕ → S → List ℕ → ℕ → ℕ → Type 0
   AtMost w m h₀ h s bs c n =
-      n ≤ length bs → accepts next s (take n bs) ≡ true → length (rule (h ++ take n bs) .bytes) ≤ length (rule h₀ .bytes) + w → length
-      (rule (h ++ take n bs) .ends) ≤ length (rule h₀ .ends) + m
-      → n ≤ c
+      n ≤ length bs → accepts next s (take n bs) ≡ true → length (rule (h ++ take n bs) .bytes) ≤ length (rule h₀ .bytes) + w
+      → length (rule (h ++ take n bs) .ends) ≤ length (rule h₀ .ends) + m → n ≤ c
 
   -- a run, from the answer a after the bytes h
   record Long (w m : ℕ) (h₀ h : List ℕ) (a : Answer S) (bs : List ℕ) (r : Answer S) : Type 0 where
