@@ -8,7 +8,7 @@ use mathlib.Core.Option.{Option, none, some, Option·some-injective}
 use lib.ListN.{length, getD, replicate, length-replicate}
 use borrow.Rule.Slice.PartMut.{midOf, putMid}
 use Rattle.desk.specs.Numbers.{entryOf}
-use Rattle.desk.specs.Push.{Out, Next, pushOf, Gives}
+use Rattle.desk.specs.Push.{Out, Next, answers, run, pushOf, Gives}
 use Rattle.desk.specs.Room.{written}
 use Rattle.desk.proofs.Pushing.{Going, going-more, stop-full, gives-refused, wrote, wrote-none, sofar}
 use Rattle.rbsp.specs.Step.{takes, next, stepped, released}
@@ -39,7 +39,7 @@ module _ {S : Type 0} {nx : Next S} {chunk out₀ : List ℕ} {s₀ : S} {out : 
     more part f ep =
         going-more g h e (record { after = after; bytes = bs; mark = false }) q n 0 en refl (wrote w n bs out part (g .out-few) f en ep) wrote-none
 
-    pub full : length out - w < n → Rattle.desk.specs.Push.run nx (length out₀) 0 (Rattle.desk.specs.Push.answers 0 s₀) chunk ≡ sofar out [] s t w 0
+    pub full : length out - w < n → run nx (length out₀) 0 (answers 0 s₀) chunk ≡ sofar out [] s t w 0
     full f = stop-full g h e (record { after = after; bytes = bs; mark = false }) q n 0 en refl f
 
 -- the reader's step took the byte, or forbids it
