@@ -13,21 +13,26 @@ use Rattle.annexb.specs.declared.Pushed.{Pushed}
 use Rattle.annexb.specs.Rule.{frameFrom, frame, given, ends}
 use Rattle.annexb.specs.Seen.{new, rule, stateOf}
 use Rattle.annexb.specs.Step.{stepping}
-use Rattle.annexb.specs.Answer.{entering, pushAnswer, resetAnswer, Gave}
-use Rattle.annexb.specs.Calls.{Span, Calls, Completes, Whole, ByTheRule}
+use Rattle.annexb.specs.Answer.{entering, resetAnswer, FramePush, FrameReset}
+use Rattle.annexb.specs.Calls.{Span, span, Calls, Completes, Whole, ByTheRule}
 use Rattle.annexb.proofs.Completing.{reset-kept, reset-completes}
 use Rattle.annexb.proofs.Laws.{pushes-rule, onward}
 
 -- one push, by the rule of the state it starts from
-pub push-rule : (s : AnnexBReader) (chunk room marks room′ marks′ : List ℕ) (r : Pushed) → s .zeros ≤ 2 → Gave (pushAnswer s chunk (length room) (length marks)) room marks room′ marks′ r
+pub push-rule : (s : AnnexBReader) (chunk room marks room′ marks′ : List ℕ) (r : Pushed) → s .zeros ≤ 2
+    → FramePush s chunk room marks room′ marks′ r
     → rule s (take (r .taken) chunk) ≡ seen (r .state) (take (r .written) room′) (take (r .marked) marks′)
 push-rule s chunk room marks room′ marks′ r k o =
-    let lent = subst⁻¹ (λ (c : List ℕ). Gave (pushAnswer s c (length room) (length marks)) room marks room′ marks′ r) (take-length chunk) o in
-    let c = pushes-rule k (Pushes.one-more Pushes.none-yet (length chunk) room marks room′ marks′ (r .number) (r .taken) (r .written) (r .marked) (r .state) lent) in
-    ap (λ (n : ℕ). rule s (take n chunk)) (sym (zero-add (r .taken))) ∙ c .rule-gives ∙ ap (seen (r .state) (take (r .written) room′)) (shifted-none (take (r .marked) marks′))
+    let lent = subst⁻¹ (λ (c : List ℕ). FramePush s c room marks room′ marks′ r) (take-length chunk) o in
+    let c =
+    pushes-rule k
+    (Pushes.one-more Pushes.none-yet (length chunk) room marks room′ marks′ (r .number) (r .taken) (r .written) (r .marked) (r .state) lent) in
+    ap (λ (n : ℕ). rule s (take n chunk)) (sym (zero-add (r .taken))) ∙ c .rule-gives
+    ∙ ap (seen (r .state) (take (r .written) room′)) (shifted-none (take (r .marked) marks′))
 
 -- a push leaves no bad state
-pub push-few : (s : AnnexBReader) (chunk room marks room′ marks′ : List ℕ) (r : Pushed) → s .zeros ≤ 2 → Gave (pushAnswer s chunk (length room) (length marks)) room marks room′ marks′ r → r .state .zeros ≤ 2
+pub push-few : (s : AnnexBReader) (chunk room marks room′ marks′ : List ℕ) (r : Pushed) → s .zeros ≤ 2
+    → FramePush s chunk room marks room′ marks′ r → r .state .zeros ≤ 2
 push-few s chunk room marks room′ marks′ r k o =
     subst (λ (x : AnnexBReader). x .zeros ≤ 2) (ap (λ (v : Seen AnnexBReader). v .state) (push-rule s chunk room marks room′ marks′ r k o))
     (trail-few (frameFrom (s .«in_unit») (replicate (s .zeros) 0 ++ take (r .taken) chunk) .rest))
@@ -42,25 +47,32 @@ module _ {spans : List Span} {h : List ℕ} {s : AnnexBReader} {g e : List ℕ} 
   ends-are : ends h ≡ e
   ends-are = ap (λ (v : Seen AnnexBReader). v .ends) (b .open-span)
 
-  after-push : (chunk room marks room′ marks′ : List ℕ) (r : Pushed) → Gave (pushAnswer s chunk (length room) (length marks)) room marks room′ marks′ r
+  after-push : (chunk room marks room′ marks′ : List ℕ) (r : Pushed)
+      → FramePush s chunk room marks room′ marks′ r
       → ByTheRule spans (h ++ take (r .taken) chunk) (r .state) (g ++ take (r .written) room′) (e ++ shifted (length g) (take (r .marked) marks′))
   after-push chunk room marks room′ marks′ r o =
       let t = take (r .taken) chunk in
-      let p = push-rule (stateOf h) chunk room marks room′ marks′ r (trail-few (frame h .rest)) (subst⁻¹ (λ (x : AnnexBReader). Gave (pushAnswer x chunk (length room) (length marks)) room marks room′ marks′ r) state-is o) in
+      let p =
+      push-rule (stateOf h) chunk room marks room′ marks′ r (trail-few (frame h .rest))
+      (subst⁻¹ (λ (x : AnnexBReader). FramePush x chunk room marks room′ marks′ r) state-is o) in
       record {
         closed-spans = b .closed-spans;
         open-span =
             onward h t
             ∙ ap (λ (v : Seen AnnexBReader). seen (v .state) (given h ++ v .bytes) (ends h ++ shifted (length (given h)) (v .ends))) p
-            ∙ ap₂ (λ (x y : List ℕ). seen (r .state) (x ++ take (r .written) room′) (y ++ shifted (length x) (take (r .marked) marks′))) given-is ends-are;
+            ∙ ap₂ (λ (x y : List ℕ). seen (r .state) (x ++ take (r .written) room′)
+            (y ++ shifted (length x) (take (r .marked) marks′))) given-is ends-are;
       }
 
-  module _ (room marks room′ marks′ : List ℕ) (r : Pushed) (o : Gave (resetAnswer s (length room) (length marks)) room marks room′ marks′ r) where
+  module _ (room marks room′ marks′ : List ℕ) (r : Pushed) (o : FrameReset s room marks room′ marks′ r) where
     after-reset : r .number ≡ 0
-        → ByTheRule (record { taken = h; bytes = g ++ take (r .written) room′; ends = e ++ shifted (length g) (take (r .marked) marks′) } ∷ spans) [] (r .state) [] []
+        → ByTheRule (span h (g ++ take (r .written) room′) (e ++ shifted (length g) (take (r .marked) marks′)) ∷ spans) [] (r .state) [] []
     after-reset z =
         let a = resetAnswer s (length room) (length marks) in
-        let c = subst (λ (x : AnnexBReader). resetAnswer x (length room) (length marks) .number ≡ 0 → Completes (frame h) (resetAnswer x (length room) (length marks))) state-is
+        let c =
+        subst
+        (λ (x : AnnexBReader). resetAnswer x (length room) (length marks) .number ≡ 0 → Completes (frame h) (resetAnswer x (length room) (length marks)))
+        state-is
         (reset-completes (frame h) (length room) (length marks)) (sym (o .number-is) ∙ z) in
         record {
           closed-spans = (
@@ -73,7 +85,8 @@ module _ {spans : List Span} {h : List ℕ} {s : AnnexBReader} {g e : List ℕ} 
           open-span = λ i. seen (sym (o .state-is ∙ c .state-new) i) [] [];
         }
 
-    after-refusal : (r .number ≡ 0 → ⊥) → ByTheRule spans h (r .state) (g ++ take (r .written) room′) (e ++ shifted (length g) (take (r .marked) marks′))
+    after-refusal : (r .number ≡ 0 → ⊥)
+        → ByTheRule spans h (r .state) (g ++ take (r .written) room′) (e ++ shifted (length g) (take (r .marked) marks′))
     after-refusal z =
         let a = resetAnswer s (length room) (length marks) in
         let kept = reset-kept s (length room) (length marks) (λ k. z (o .number-is ∙ k)) in
@@ -98,8 +111,8 @@ calls-rule (Calls.reset-refused c room marks room′ marks′ r o z) = after-ref
 
 -- PUSHES FROM A NEW READER, CLOSED BY ONE RESET
 pub pushes-reset : {stream : List ℕ} {n : ℕ} {s : AnnexBReader} {g e : List ℕ} → Pushes stepping entering new stream n s g e
-    → (room marks room′ marks′ : List ℕ) (r : Pushed) → Gave (resetAnswer s (length room) (length marks)) room marks room′ marks′ r → r .number ≡ 0
-    → Whole (record { taken = take n stream; bytes = g ++ take (r .written) room′; ends = e ++ shifted (length g) (take (r .marked) marks′) })
+    → (room marks room′ marks′ : List ℕ) (r : Pushed) → FrameReset s room marks room′ marks′ r → r .number ≡ 0
+    → Whole (span (take n stream) (g ++ take (r .written) room′) (e ++ shifted (length g) (take (r .marked) marks′)))
 pushes-reset {stream} {n} {s} {g} {e} p room marks room′ marks′ r o z =
     let before : ByTheRule [] (take n stream) s g e = record { closed-spans = tt; open-span = pushes-rule zero-le p .rule-gives } in
     after-reset before room marks room′ marks′ r o z .closed-spans .0

@@ -4,7 +4,8 @@ use native.Mathlib.Omega.{arith}
 use mathlib.Core.Path.{_≡_, refl, ap, ap₂, sym, _∙_}
 use mathlib.Core.Bool.{Bool, true, false, _&&_, and-true, and-false}
 use mathlib.Core.List.{List, [], _∷_, _++_, append-assoc}
-use Rattle.desk.specs.Search.{trail, two, oneMore, shown}
+use Rattle.desk.specs.Search.{trail, shown}
+use Rattle.desk.specs.Zeros.{two, oneMore}
 use Rattle.desk.proofs.Search.{trail-more}
 use Rattle.desk.proofs.Choice.{cond-by}
 use Rattle.annexb.specs.Rule.{Frame, unended, behind, frameFrom}
@@ -18,7 +19,8 @@ two-full (suc z) e = refl
 zero-trail : (o : Bool) (r : List ℕ) → trail (onByte o r 0 .rest) ≡ oneMore (trail r)
 zero-trail false r = rw (and-false (two (trail r))) (trail-more r 0)
 zero-trail true r =
-    cond-by (λ (f : Frame). trail (f .rest) ≡ oneMore (trail r)) (two (trail r) && true) (behind (shown r ∷ []) (unended false (0 ∷ 0 ∷ 0 ∷ []))) (unended true (r ++ 0 ∷ []))
+    cond-by (λ (f : Frame). trail (f .rest) ≡ oneMore (trail r)) (two (trail r) && true) (behind (shown r ∷ []) (unended false (0 ∷ 0 ∷ 0 ∷ [])))
+    (unended true (r ++ 0 ∷ []))
     (λ e. two-full (trail r) (sym (and-true (two (trail r))) ∙ e))
     (λ e. trail-more r 0)
 
@@ -44,8 +46,11 @@ code-opens o h =
     let f = frameFrom o h in
     let g = frameFrom o (h ++ 0 ∷ []) in
     let k = frameFrom o ((h ++ 0 ∷ []) ++ 0 ∷ []) in
-    let one : trail (g .rest) ≡ oneMore (trail (f .rest)) = ap (λ (x : Frame). trail (x .rest)) (frame-more o h 0) ∙ zero-trail (f .inUnit) (f .rest) in
-    let full : trail (k .rest) ≡ 2 = ap (λ (x : Frame). trail (x .rest)) (frame-more o (h ++ 0 ∷ []) 0) ∙ zero-trail (g .inUnit) (g .rest) ∙ ap oneMore one ∙ twice (trail (f .rest)) in
+    let one : trail (g .rest) ≡ oneMore (trail (f .rest)) =
+    ap (λ (x : Frame). trail (x .rest)) (frame-more o h 0) ∙ zero-trail (f .inUnit) (f .rest) in
+    let full : trail (k .rest) ≡ 2 =
+    ap (λ (x : Frame). trail (x .rest)) (frame-more o (h ++ 0 ∷ []) 0) ∙ zero-trail (g .inUnit) (g .rest) ∙ ap oneMore one
+    ∙ twice (trail (f .rest)) in
     let last = frame-more o ((h ++ 0 ∷ []) ++ 0 ∷ []) 1 in
     let opens = one-opens (k .inUnit) (k .rest) full in
     record { in-unit = ap (λ (x : Frame). x .inUnit) last ∙ opens .in-unit; fresh = ap (λ (x : Frame). x .rest) last ∙ opens .fresh }

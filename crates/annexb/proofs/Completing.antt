@@ -37,12 +37,14 @@ ending : (s : AnnexBReader) (w m : ℕ) → Ending s (resetAnswer s w m)
 unfolding resetAnswer closing
 ending s w m =
     let n = entering s 0 w m in
-    cond-by (Ending s) (eqb n 0) _ (answers n s) (λ _. open-ending (s .«in_unit») (s .zeros) (leb (s .zeros) w && leb 1 m)) (λ q. Ending.refuses n (eqb-false n 0 q))
+    cond-by (Ending s) (eqb n 0) _ (answers n s) (λ _. open-ending (s .«in_unit») (s .zeros) (leb (s .zeros) w && leb 1 m))
+    (λ q. Ending.refuses n (eqb-false n 0 q))
 
 -- where the held zeros and the mark fit, a reset that passes its entry checks is done
 pub reset-done : (s : AnnexBReader) (w m : ℕ) → entering s 0 w m ≡ 0 → s .zeros ≤ w → 1 ≤ m → resetAnswer s w m .number ≡ 0
 unfolding resetAnswer closing
-reset-done s w m e a b = rw (e, le-leb (s .zeros) w a, le-leb 1 m b) (cond-ind (λ (x : Answer AnnexBReader). x .number ≡ 0) (s .«in_unit») _ _ refl refl)
+reset-done s w m e a b =
+    rw (e, le-leb (s .zeros) w a, le-leb 1 m b) (cond-ind (λ (x : Answer AnnexBReader). x .number ≡ 0) (s .«in_unit») _ _ refl refl)
 
 -- a reset that is refused changes nothing
 pub reset-kept : (s : AnnexBReader) (w m : ℕ) → (resetAnswer s w m .number ≡ 0 → ⊥) → resetAnswer s w m ≡ answers (resetAnswer s w m .number) s
@@ -62,9 +64,12 @@ completed us false r =
       state-new = refl;
     }
 completed us true r =
-    let whole : joined us ++ shown r ++ replicate (trail r) 0 ≡ joined us ++ r = append-assoc (joined us) (shown r) (replicate (trail r) 0) ∙ ap (λ (l : List ℕ). joined us ++ l) (shown-held r) in
+    let whole : joined us ++ shown r ++ replicate (trail r) 0 ≡ joined us ++ r =
+    append-assoc (joined us) (shown r) (replicate (trail r) 0) ∙ ap (λ (l : List ℕ). joined us ++ l) (shown-held r) in
     let n : length (joined us ++ shown r) + trail r ≡ 0 + length (joined us) + length r =
-    ap (λ (k : ℕ). length (joined us ++ shown r) + k) (sym (length-replicate (trail r) 0)) ∙ sym (length-append (joined us ++ shown r) (replicate (trail r) 0)) ∙ ap length whole ∙ length-append (joined us) r ∙ ap (λ (k : ℕ). k + length r) (sym (zero-add (length (joined us)))) in
+    ap (λ (k : ℕ). length (joined us ++ shown r) + k) (sym (length-replicate (trail r) 0))
+    ∙ sym (length-append (joined us ++ shown r) (replicate (trail r) 0)) ∙ ap length whole ∙ length-append (joined us) r
+    ∙ ap (λ (k : ℕ). k + length r) (sym (zero-add (length (joined us)))) in
     record {
       bytes-all = whole ∙ ap (λ (l : List ℕ). joined us ++ l) (sym (append-nil r)) ∙ sym (joined-append us (r ∷ []));
       ends-all = ap (λ (k : ℕ). endsFrom 0 us ++ k ∷ []) n ∙ sym (ends-append 0 us (r ∷ []));

@@ -12,4 +12,5 @@ pub mod Sheets
 pub mod Stepping
 pub mod Streams
 pub mod Table
+pub mod Ways
 pub mod Writing

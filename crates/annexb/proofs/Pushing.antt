@@ -17,7 +17,7 @@ use Rattle.desk.proofs.Pushing.{wrote, Going, sofar, going-more, gives, gives-r
 use Rattle.annexb.specs.declared.AnnexBReader.{AnnexBReader}
 use Rattle.annexb.specs.declared.Pushed.{Pushed}
 use Rattle.annexb.specs.declared.Stepped.{Stepped}
-use Rattle.annexb.specs.Answer.{entering, pushAnswer, Gave, gave, alone}
+use Rattle.annexb.specs.Answer.{entering, FramePush, gave, alone}
 use Rattle.annexb.specs.Step.{step, stepping, released, Does}
 use Rattle.annexb.proofs.Stepping.{step-few}
 
@@ -31,8 +31,9 @@ pub zeros-passed : (ns : List ℕ) (z n : ℕ) → n ≡ entryOf ns (ltb 2 z) �
 zeros-passed ns z n e q = ltb-false 2 z (entry-passed ns (ltb 2 z) (sym e ∙ q) .1)
 
 -- a push that the entry checks refuse
-pub push-refused : (s : AnnexBReader) (chunk out marks : List ℕ) {n : ℕ} {r : Pushed} → n ≡ entering s (length chunk) (length out) (length marks) → (n ≡ 0 → ⊥) → r ≡ alone n s
-    → Gave (pushAnswer s chunk (length out) (length marks)) out marks out marks r
+pub push-refused : (s : AnnexBReader) (chunk out marks : List ℕ) {n : ℕ} {r : Pushed} → n ≡ entering s (length chunk) (length out) (length marks)
+    → (n ≡ 0 → ⊥) → r ≡ alone n s
+    → FramePush s chunk out marks out marks r
 push-refused s chunk out marks {n} e h q = rw (q, ← e) (gives-refused stepping n s chunk out marks h)
 
 mark-is : (c : Bool) (k w : ℕ) (l : List ℕ) → k ≡ cond c 1 0 → length l ≡ w → replicate k w ≡ marked c l
@@ -47,13 +48,16 @@ pub ends-few : {o : Out AnnexBReader} {b : ℕ} {r : Stepped} → Does o b r →
 ends-few {o} {b} {r} d = one-most (o .mark) (r .ends) (d .ends-is)
 
 -- a push that stops where the run does
-pub push-gives : {chunk out₀ marks₀ : List ℕ} {s₀ : AnnexBReader} {out marks : List ℕ} {s : AnnexBReader} {t w m : ℕ} → Reading chunk out₀ marks₀ s₀ out marks s t w m
+pub push-gives : {chunk out₀ marks₀ : List ℕ} {s₀ : AnnexBReader} {out marks : List ℕ} {s : AnnexBReader} {t w m : ℕ}
+    → Reading chunk out₀ marks₀ s₀ out marks s t w m
     → {n : ℕ} {r : Pushed} → n ≡ entering s₀ (length chunk) (length out₀) (length marks₀) → n ≡ 0 → r ≡ gave t w m s
     → run stepping (length out₀) (length marks₀) (answers 0 s₀) chunk ≡ sofar out marks s t w m
-    → Gave (pushAnswer s₀ chunk (length out₀) (length marks₀)) out₀ marks₀ out marks r
+    → FramePush s₀ chunk out₀ marks₀ out marks r
 push-gives {chunk} {out₀} {marks₀} {s₀} i e z q k = rw q (gives (i .going) (entering s₀ (length chunk) (length out₀) (length marks₀)) (sym e ∙ z) 0 k)
 
-module _ {chunk out₀ marks₀ : List ℕ} {s₀ : AnnexBReader} {out marks : List ℕ} {s : AnnexBReader} {t w m : ℕ} (i : Reading chunk out₀ marks₀ s₀ out marks s t w m) {b : ℕ} (h : t < length chunk) (e : b ≡ getD chunk t 0) {r : Stepped} (d : Does (step s b) b r) where
+module _ {chunk out₀ marks₀ : List ℕ} {s₀ : AnnexBReader} {out marks : List ℕ} {s : AnnexBReader} {t w m : ℕ}
+    (i : Reading chunk out₀ marks₀ s₀ out marks s t w m) {b : ℕ} (h : t < length chunk) (e : b ≡ getD chunk t 0) {r : Stepped}
+    (d : Does (step s b) b r) where
   marks-are : replicate (r .ends) w ≡ marked (step s b .mark) (take w out)
   marks-are = mark-is (step s b .mark) (r .ends) w (take w out) (d .ends-is) (length-take-le w out (i .going .out-few))
 
@@ -64,14 +68,18 @@ module _ {chunk out₀ marks₀ : List ℕ} {s₀ : AnnexBReader} {out marks : L
   pub takes : r .count ≤ length out - w → r .ends ≤ length marks - m → (part mpart : List ℕ)
       → part ≡ written (midOf w (length out - w) out) (released (r .count) b)
       → mpart ≡ written (midOf m (length marks - m) marks) (replicate (r .ends) w)
-      → Reading chunk out₀ marks₀ s₀ (putMid w (length out - w) out part) (putMid m (length marks - m) marks mpart) (r .after) (t + 1) (w + r .count) (m + r .ends)
+      → Reading chunk out₀ marks₀ s₀ (putMid w (length out - w) out part) (putMid m (length marks - m) marks mpart)
+      (r .after) (t + 1) (w + r .count) (m + r .ends)
   takes ho hm part mpart eo em =
-      subst (λ (a : AnnexBReader). Reading chunk out₀ marks₀ s₀ (putMid w (length out - w) out part) (putMid m (length marks - m) marks mpart) a (t + 1) (w + r .count) (m + r .ends)) (sym (d .after-is))
+      subst (λ (a : AnnexBReader). Reading chunk out₀ marks₀ s₀ (putMid w (length out - w) out part) (putMid m (length marks - m) marks mpart) a
+      (t + 1) (w + r .count) (m + r .ends)) (sym (d .after-is))
       (record {
         going =
             going-more (i .going) h e (step s b) refl (r .count) (r .ends) (sym (d .count-is)) marks-count
-            (wrote w (r .count) (step s b .bytes) out part (i .going .out-few) ho (sym (d .count-is)) (eo ∙ ap (written (midOf w (length out - w) out)) (d .bytes-are)))
-            (wrote m (r .ends) (marked (step s b .mark) (take w out)) marks mpart (i .going .marks-few) hm marks-count (em ∙ ap (written (midOf m (length marks - m) marks)) marks-are));
+            (wrote w (r .count) (step s b .bytes) out part (i .going .out-few) ho (sym (d .count-is))
+            (eo ∙ ap (written (midOf w (length out - w) out)) (d .bytes-are)))
+            (wrote m (r .ends) (marked (step s b .mark) (take w out)) marks mpart (i .going .marks-few) hm marks-count
+            (em ∙ ap (written (midOf m (length marks - m) marks)) marks-are));
         few = step-few s b (i .few);
       })
 

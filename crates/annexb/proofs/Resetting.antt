@@ -12,11 +12,11 @@ use Rattle.desk.proofs.Pushing.{gives-alone}
 use Rattle.annexb.specs.declared.AnnexBReader.{AnnexBReader}
 use Rattle.annexb.specs.declared.Pushed.{Pushed}
 use Rattle.annexb.specs.Seen.{new}
-use Rattle.annexb.specs.Answer.{entering, closing, resetAnswer, Gave, gave, alone}
+use Rattle.annexb.specs.Answer.{entering, closing, resetAnswer, Gave, FrameReset, gave, alone}
 
 module _ (s : AnnexBReader) (out marks : List ℕ) {n : ℕ} (e : n ≡ entering s 0 (length out) (length marks)) where
   abbrev Resets : List ℕ → List ℕ → Pushed → Type 0
-  Resets out′ marks′ r = Gave (resetAnswer s (length out) (length marks)) out marks out′ marks′ r
+  Resets out′ marks′ r = FrameReset s out marks out′ marks′ r
 
   pub reset-refused : (n ≡ 0 → ⊥) → Resets out marks (alone n s)
   unfolding resetAnswer
@@ -27,7 +27,8 @@ module _ (s : AnnexBReader) (out marks : List ℕ) {n : ℕ} (e : n ≡ entering
     unfolding resetAnswer
     went = rw (← e, z) refl
 
-    reset-is : (a : Answer AnnexBReader) {out′ marks′ : List ℕ} {r : Pushed} → closing s (length out) (length marks) ≡ a → Gave a out marks out′ marks′ r → Resets out′ marks′ r
+    reset-is : (a : Answer AnnexBReader) {out′ marks′ : List ℕ} {r : Pushed} → closing s (length out) (length marks) ≡ a
+        → Gave a out marks out′ marks′ r → Resets out′ marks′ r
     reset-is a {out′} {marks′} {r} q g = subst⁻¹ (λ (x : Answer AnnexBReader). Gave x out marks out′ marks′ r) (went ∙ q) g
 
     pub reset-outside : s .«in_unit» ≡ false → Resets out marks (alone 0 new)
@@ -45,9 +46,19 @@ module _ (s : AnnexBReader) (out marks : List ℕ) {n : ℕ} (e : n ≡ entering
       pub reset-no-mark : length marks < 1 → Resets out marks (alone 10 s)
       reset-no-mark h = reset-10 (rw (lt-leb 1 (length marks) h) (and-false (leb (s .zeros) (length out))))
 
-      pub reset-ends : (out′ marks′ : List ℕ) → s .zeros ≤ length out → 1 ≤ length marks → out′ ≡ written out (replicate (s .zeros) 0) → marks′ ≡ written marks (s .zeros ∷ [])
+      pub reset-ends : (out′ marks′ : List ℕ) → s .zeros ≤ length out → 1 ≤ length marks → out′ ≡ written out (replicate (s .zeros) 0)
+          → marks′ ≡ written marks (s .zeros ∷ [])
           → Resets out′ marks′ (gave 0 (s .zeros) 1 new)
       unfolding closing
       reset-ends out′ marks′ a b p q =
-          reset-is (record { number = 0; taken = 0; bytes = replicate (s .zeros) 0; marks = s .zeros ∷ []; after = new }) (rw (o, le-leb (s .zeros) (length out) a, le-leb 1 (length marks) b) refl)
-          (record { number-is = refl; taken-is = refl; wrote-is = sym (length-replicate (s .zeros) 0); marked-is = refl; state-is = refl; room = p; mark-room = q })
+          reset-is (record { number = 0; taken = 0; bytes = replicate (s .zeros) 0; marks = s .zeros ∷ []; after = new })
+          (rw (o, le-leb (s .zeros) (length out) a, le-leb 1 (length marks) b) refl)
+          (record {
+            number-is = refl;
+            taken-is = refl;
+            wrote-is = sym (length-replicate (s .zeros) 0);
+            marked-is = refl;
+            state-is = refl;
+            room = p;
+            mark-room = q;
+          })

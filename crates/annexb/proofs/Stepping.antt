@@ -4,7 +4,8 @@ use native.Mathlib.Omega.{arith}
 use mathlib.Core.Path.{_≡_, refl}
 use mathlib.Core.Bool.{Bool, true, false, cond, _&&_}
 use mir.Val.{boolByte}
-use Rattle.desk.specs.Search.{is0, is1, upTo1, two, zerosAfter}
+use Rattle.desk.specs.Search.{is0, is1, upTo1}
+use Rattle.desk.specs.Zeros.{two, zerosAfter}
 use Rattle.desk.specs.Push.{Out}
 use Rattle.desk.proofs.Choice.{cond-ind}
 use Rattle.annexb.specs.declared.AnnexBReader.{AnnexBReader}
@@ -29,7 +30,8 @@ zero-does true (suc zero) h n = record { after-is = refl; count-is = refl; bytes
 zero-does o (suc (suc z)) h n = let x : ⊥ = n (omega arith) in absurd x
 
 -- a byte that is no zero and no end
-pub other-does : (o : Bool) (z b : ℕ) → z ≤ 2 → (b ≡ 0 → ⊥) → (z ≡ 2 → b ≡ 1 → ⊥) → Does (step (at o z) b) b (cond o (stepped true 0 (z + 1) 0) (stepped false 0 0 0))
+pub other-does : (o : Bool) (z b : ℕ) → z ≤ 2 → (b ≡ 0 → ⊥) → (z ≡ 2 → b ≡ 1 → ⊥)
+    → Does (step (at o z) b) b (cond o (stepped true 0 (z + 1) 0) (stepped false 0 0 0))
 other-does o z zero h n m = absurd (n refl)
 other-does false zero (suc b) h n m = record { after-is = refl; count-is = refl; bytes-are = refl; ends-is = refl }
 other-does true zero (suc b) h n m = record { after-is = refl; count-is = refl; bytes-are = refl; ends-is = refl }

@@ -1,4 +1,5 @@
--- What a caller knows of a stream's units: joined bytes and ends leave one list of them, and a byte stream by the syntax table comes back as its NAL units.
+-- What a caller knows of a stream's units: joined bytes and ends leave one list of them, and a byte stream by the syntax table comes back as its NAL
+-- units.
 use Prim.Native.Nat.{ℕ, _+_}
 use native.Mathlib.Omega.{arith}
 use mathlib.Core.Path.{_≡_, refl, ap, ap₂, sym, _∙_}
@@ -11,7 +12,7 @@ use Rattle.annexb.specs.declared.Pushed.{Pushed}
 use Rattle.annexb.specs.Rule.{joined, endsFrom, unitsAtReset}
 use Rattle.annexb.specs.Seen.{new}
 use Rattle.annexb.specs.Step.{stepping}
-use Rattle.annexb.specs.Answer.{entering, resetAnswer, Gave}
+use Rattle.annexb.specs.Answer.{entering, FrameReset}
 use Rattle.annexb.specs.Syntax.{ByteStreamNalUnit, byteStream, AllAllowed, NoneJoin, nalUnits}
 use Rattle.annexb.proofs.Calling.{pushes-reset}
 use Rattle.annexb.proofs.Table.{table-exact}
@@ -31,7 +32,7 @@ units-are k (u ∷ us) (v ∷ vs) j e =
 -- A BYTE STREAM BY THE TABLE, THROUGH ANY PUSHES OF ALL OF IT AND ONE RESET: its NAL units, joined and by their ends
 pub table-pushed : (leading : ℕ) (us : List ByteStreamNalUnit) → AllAllowed us → NoneJoin us
     → {s : AnnexBReader} {g e : List ℕ} → Pushes stepping entering new (byteStream leading us) (length (byteStream leading us)) s g e
-    → (room marks room′ marks′ : List ℕ) (r : Pushed) → Gave (resetAnswer s (length room) (length marks)) room marks room′ marks′ r → r .number ≡ 0
+    → (room marks room′ marks′ : List ℕ) (r : Pushed) → FrameReset s room marks room′ marks′ r → r .number ≡ 0
     → (g ++ take (r .written) room′ ≡ joined (nalUnits us)) × (e ++ shifted (length g) (take (r .marked) marks′) ≡ endsFrom 0 (nalUnits us))
 table-pushed leading us a k p room marks room′ marks′ r o z =
     let w = pushes-reset p room marks room′ marks′ r o z in

@@ -1,4 +1,4 @@
--- WHAT A CALLER IS TO SEE, BY THE RULE: the state, the joined bytes and the ends, once some bytes are taken. Assumes nothing: these are definitions.
+-- WHAT A CALLER IS TO SEE, BY THE RULE: the state, the joined bytes and the ends, once some bytes are taken.
 use Prim.Native.Nat.{ℕ}
 use mathlib.Core.Bool.{Bool, false}
 use mathlib.Core.List.{List, _++_}

@@ -1,11 +1,12 @@
--- The reader's step at one byte: the shape of the code. Assumes nothing: these are definitions.
+-- The reader's step at one byte: the shape of the code.
 use Prim.Native.Nat.{ℕ, zero, suc}
 use mathlib.Core.Bool.{Bool, true, false, cond, _&&_}
 use mathlib.Core.Path.{_≡_}
 use mathlib.Core.List.{List, [], _∷_, _++_}
 use mathlib.Core.Option.{some}
 use lib.ListN.{length, replicate}
-use Rattle.desk.specs.Search.{is0, is1, upTo1, two, zerosAfter}
+use Rattle.desk.specs.Search.{is0, is1, upTo1}
+use Rattle.desk.specs.Zeros.{two, zerosAfter}
 use Rattle.desk.specs.Push.{Out, Next}
 use Rattle.annexb.specs.declared.AnnexBReader.{AnnexBReader}
 use Rattle.annexb.specs.declared.Stepped.{Stepped}

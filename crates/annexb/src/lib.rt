@@ -5,7 +5,7 @@ ghost use lib.ListN.{length, replicate};
 ghost use Rattle.desk.specs.Room.{written};
 ghost use Rattle.annexb.specs.Seen.{new};
 ghost use Rattle.annexb.specs.Step.{step, stepped, released, Does};
-ghost use Rattle.annexb.specs.Answer.{pushAnswer, resetAnswer, Gave, gave, alone};
+ghost use Rattle.annexb.specs.Answer.{FramePush, FrameReset, gave, alone};
 
 // The reader between two calls: in a unit or not, and the zeros that the next byte decides on.
 // The Rust's ParseState: Start, StartOneZero and StartTwoZero are zeros 0, 1 and 2 outside a unit; InUnit, InUnitOneZero and InUnitTwoZero are
@@ -41,8 +41,9 @@ fn does(in_unit: bool, zeros: u8, count: usize, ends: usize) -> Stepped
     }
 }
 
-// Behind two zeros 01 starts a unit, and 00 or 01 ends one: neither pattern stands in a NAL unit (Rec 7.4.1), and a start code is 00 00 01 (Rec B.1.1).
-// A third zero is no third held one: the two before it may yet be a start code's. Any other byte of a unit releases the zeros held, and itself.
+// Behind two zeros 01 starts a unit, and 00 or 01 ends one: neither pattern stands in a NAL unit (Rec 7.4.1), and a start code is 00 00 01
+// (Rec B.1.1). A third zero is no third held one: the two before it may yet be a start code's. Any other byte of a unit releases the zeros
+// held, and itself.
 fn step(s: AnnexBReader, b: u8) -> Stepped
     requires { ⌜ s .zeros ≤ 2 ⌝ }
     ensures { λ r. ⌜ Does (step s b) b r ⌝ }
@@ -139,7 +140,7 @@ impl AnnexBReader {
     // Takes bytes of the chunk from the front, one after another, while all that the next one releases fits. A mark is the count of bytes that this
     // call wrote before a unit's end. 1: a lent buffer is too long. 2: the state holds over two zeros.
     pub fn push(self, chunk: &[u8], room: &mut [u8], marks: &mut [u64]) -> Pushed
-        ensures { λ r. ⌜ Gave (pushAnswer self (now (chunk .entry)) (length (now (room .entry))) (length (now (marks .entry)))) (now (room .entry)) (now (marks .entry)) (now (room .exit)) (now (marks .exit)) r ⌝ }
+        ensures { λ r. ⌜ FramePush self (now (chunk .entry)) (now (room .entry)) (now (marks .entry)) (now (room .exit)) (now (marks .exit)) r ⌝ }
     {
         let number = desk::entry(chunk.len(), room.len(), marks.len(), self.zeros > 2);
         if number != desk::DONE {
@@ -171,9 +172,10 @@ impl AnnexBReader {
         gave(taken, written, marked, state)
     }
 
-    // Ends an open unit, with its held zeros and its mark, and forgets all. Outside a unit it hands out nothing. 1, 2: as a push. 10: they do not fit.
+    // Ends an open unit, with its held zeros and its mark, and forgets all. Outside a unit it hands out nothing. 1, 2: as a push. 10: they do not
+    // fit.
     pub fn reset(self, room: &mut [u8], marks: &mut [u64]) -> Pushed
-        ensures { λ r. ⌜ Gave (resetAnswer self (length (now (room .entry))) (length (now (marks .entry)))) (now (room .entry)) (now (marks .entry)) (now (room .exit)) (now (marks .exit)) r ⌝ }
+        ensures { λ r. ⌜ FrameReset self (now (room .entry)) (now (marks .entry)) (now (room .exit)) (now (marks .exit)) r ⌝ }
     {
         let number = desk::entry(0, room.len(), marks.len(), self.zeros > 2);
         if number != desk::DONE {

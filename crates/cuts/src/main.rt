@@ -1,7 +1,6 @@
 // The example of src/annexb.rs through the compiled code: units of 25 and 7 bytes, the second closed by a reset. Under every placing of up to three
 // cuts, and byte by byte; each with every room from 3 bytes and 1 mark up to all 32 bytes and both marks. It counts cases and differences.
 ghost use mathlib.Core.Path.{_≡_};
-ghost use Prim.Native.Nat.{_≤_};
 ghost use lib.ListN.{length};
 use annexb::AnnexBReader;
 use annexb::Pushed;
@@ -84,10 +83,31 @@ fn after_call(run: Run, p: Pushed, room: &[u8], marks: &[u64], wanted: &[u8], en
     }
 }
 
-// Pushes a piece until all of it is taken: with these rooms each push takes a byte at least, so as many turns as bytes are enough.
+// The first n bytes, or all where there are fewer.
+fn front(s: &[u8], n: usize) -> &[u8] {
+    if n < s.len() {
+        return &s[0..n];
+    }
+    s
+}
+
+// The bytes from a to b; nothing where there are none.
+fn part(s: &[u8], a: usize, b: usize) -> &[u8] {
+    if b > s.len() {
+        return front(s, 0);
+    }
+    if a > b {
+        return front(s, 0);
+    }
+    &s[a..b]
+}
+
+// Pushes a piece, at most `lend` bytes at a time, until all of it is taken: with these rooms each push takes a byte at least, so as many turns
+// as bytes are enough.
 fn push_all(
     run: Run,
     piece: &[u8],
+    lend: usize,
     room: &mut [u8],
     marks: &mut [u64],
     wanted: &[u8],
@@ -101,7 +121,7 @@ fn push_all(
             return r;
         }
         let reader = r.reader;
-        let p = reader.push(&piece[at..], room, marks);
+        let p = reader.push(front(&piece[at..], lend), room, marks);
         r = after_call(r, p, room, marks, wanted, ends);
         at = std::num::wrapping_add_usize(at, p.taken);
         turns -= 1;
@@ -140,6 +160,61 @@ fn end(
         & (last.zeros == 0)
 }
 
+// One case: the first w bytes of the room and the first m marks are lent, the stream is cut at a, b and c (in fewer pieces where two of them
+// are equal, or one is at an end), and each push is lent at most `lend` bytes of its piece.
+struct Case {
+    w: usize,
+    m: usize,
+    lend: usize,
+    a: usize,
+    b: usize,
+    c: usize,
+}
+
+// Each room begins byte by byte, uncut.
+fn byte_by_byte(w: usize, m: usize) -> Case {
+    Case {
+        w,
+        m,
+        lend: 1,
+        a: 0,
+        b: 0,
+        c: 0,
+    }
+}
+
+// Then come all placings of the cuts, each push lent all that is left of its piece.
+fn cut_at(w: usize, m: usize, all: usize, a: usize, b: usize, c: usize) -> Case {
+    Case {
+        w,
+        m,
+        lend: all,
+        a,
+        b,
+        c,
+    }
+}
+
+// The next case: the last cut moves first. Behind the last placing comes the room with a second mark, then one of a byte more.
+fn next(k: Case, all: usize) -> Case {
+    if k.lend < all {
+        return cut_at(k.w, k.m, all, 0, 0, 0);
+    }
+    if k.c < all {
+        return cut_at(k.w, k.m, all, k.a, k.b, k.c + 1);
+    }
+    if k.b < all {
+        return cut_at(k.w, k.m, all, k.a, k.b + 1, k.b + 1);
+    }
+    if k.a < all {
+        return cut_at(k.w, k.m, all, k.a + 1, k.a + 1, k.a + 1);
+    }
+    if k.m < 2 {
+        return byte_by_byte(k.w, 2);
+    }
+    byte_by_byte(std::num::wrapping_add_usize(k.w, 1), 1)
+}
+
 // The stream from a to c, cut at b.
 fn two_pieces(
     run: Run,
@@ -147,159 +222,84 @@ fn two_pieces(
     a: usize,
     b: usize,
     c: usize,
+    lend: usize,
     room: &mut [u8],
     marks: &mut [u64],
     wanted: &[u8],
     ends: &[u64],
-) -> Run
-    requires { ⌜ (a ≤ b) × (b ≤ c) × (c ≤ length (now stream)) ⌝ }
-{
-    let r = push_all(run, &stream[a..b], room, marks, wanted, ends);
-    push_all(r, &stream[b..c], room, marks, wanted, ends)
+) -> Run {
+    let r = push_all(run, part(stream, a, b), lend, room, marks, wanted, ends);
+    push_all(r, part(stream, b, c), lend, room, marks, wanted, ends)
 }
 
-// The stream cut at a, b and c; where two of them are equal, or one is at an end, in fewer pieces.
-fn three_cuts(
-    stream: &[u8],
-    a: usize,
-    b: usize,
-    c: usize,
-    room: &mut [u8],
-    marks: &mut [u64],
-    wanted: &[u8],
-    ends: &[u64],
-) -> bool
-    requires { ⌜ (a ≤ b) × (b ≤ c) × (c ≤ length (now stream)) ⌝ }
-{
-    let all = stream.len();
-    let new = begin();
-    let half = two_pieces(new, stream, 0, a, b, room, marks, wanted, ends);
-    let whole = two_pieces(half, stream, b, c, all, room, marks, wanted, ends);
-    end(whole, all, room, marks, wanted, ends)
-}
-
-fn third_cuts(
-    counts: Counts,
-    stream: &[u8],
-    a: usize,
-    b: usize,
-    room: &mut [u8],
-    marks: &mut [u64],
-    wanted: &[u8],
-    ends: &[u64],
-) -> Counts
-    requires { ⌜ (a ≤ b) × (b ≤ length (now stream)) × (length (now stream) ≤ 64) ⌝ }
-{
-    let mut n = counts;
-    let mut c = b;
-    while c <= stream.len() {
-        let right = three_cuts(stream, a, b, c, room, marks, wanted, ends);
-        n = more(n, right);
-        c += 1;
-    }
-    n
-}
-
-fn second_cuts(
-    counts: Counts,
-    stream: &[u8],
-    a: usize,
-    room: &mut [u8],
-    marks: &mut [u64],
-    wanted: &[u8],
-    ends: &[u64],
-) -> Counts
-    requires { ⌜ (a ≤ length (now stream)) × (length (now stream) ≤ 64) ⌝ }
-{
-    let mut n = counts;
-    let mut b = a;
-    while b <= stream.len() {
-        n = third_cuts(n, stream, a, b, room, marks, wanted, ends);
-        b += 1;
-    }
-    n
-}
-
-fn all_cuts(
-    counts: Counts,
-    stream: &[u8],
-    room: &mut [u8],
-    marks: &mut [u64],
-    wanted: &[u8],
-    ends: &[u64],
-) -> Counts
-    requires { ⌜ length (now stream) ≤ 64 ⌝ }
-{
-    let mut n = counts;
-    let mut a = 0;
-    while a <= stream.len() {
-        n = second_cuts(n, stream, a, room, marks, wanted, ends);
-        a += 1;
-    }
-    n
-}
-
-fn byte_by_byte(
+// All pieces of the stream, and a reset.
+fn pieces_right(
+    k: Case,
     stream: &[u8],
     room: &mut [u8],
     marks: &mut [u64],
     wanted: &[u8],
     ends: &[u64],
 ) -> bool {
-    let mut r = begin();
-    let mut at = 0;
-    while at < stream.len() {
-        let next = at + 1;
-        r = push_all(r, &stream[at..next], room, marks, wanted, ends);
-        at = next;
-    }
-    end(r, stream.len(), room, marks, wanted, ends)
-}
-
-// With the first w bytes of the room and the first m marks.
-fn with_rooms(
-    counts: Counts,
-    w: usize,
-    m: usize,
-    stream: &[u8],
-    room: &mut [u8],
-    marks: &mut [u64],
-    wanted: &[u8],
-    ends: &[u64],
-) -> Counts
-    requires { ⌜ (length (now stream) ≤ 64) × (w ≤ length (now room)) × (m ≤ length (now marks)) ⌝ }
-{
-    let n = all_cuts(
-        counts,
+    let all = stream.len();
+    let new = begin();
+    let half = two_pieces(new, stream, 0, k.a, k.b, k.lend, room, marks, wanted, ends);
+    let whole = two_pieces(
+        half,
         stream,
-        &mut room[0..w],
-        &mut marks[0..m],
+        k.b,
+        k.c,
+        all,
+        k.lend,
+        room,
+        marks,
         wanted,
         ends,
     );
-    let right = byte_by_byte(stream, &mut room[0..w], &mut marks[0..m], wanted, ends);
-    more(n, right)
+    end(whole, all, room, marks, wanted, ends)
 }
 
-// Every room from 3 bytes and 1 mark up to all of the room and 2 marks.
-fn every_room(
+fn case_right(
+    k: Case,
     stream: &[u8],
     room: &mut [u8],
     marks: &mut [u64],
     wanted: &[u8],
     ends: &[u64],
-) -> Counts
-    requires { ⌜ (length (now stream) ≤ 64) × (length (now room) ≤ 64) × (2 ≤ length (now marks)) ⌝ }
-{
+) -> bool {
+    let w = k.w;
+    let m = k.m;
+    if w > room.len() {
+        return false;
+    }
+    if m > marks.len() {
+        return false;
+    }
+    pieces_right(k, stream, &mut room[0..w], &mut marks[0..m], wanted, ends)
+}
+
+// Every case, from 3 bytes and 1 mark up to all of the room and 2 marks. There are fewer than a million.
+fn every_case(
+    stream: &[u8],
+    room: &mut [u8],
+    marks: &mut [u64],
+    wanted: &[u8],
+    ends: &[u64],
+) -> Counts {
     let mut n = Counts {
         cases: 0,
         differences: 0,
     };
-    let mut w = 3;
-    while w <= room.len() {
-        n = with_rooms(n, w, 1, stream, room, marks, wanted, ends);
-        n = with_rooms(n, w, 2, stream, room, marks, wanted, ends);
-        w += 1;
+    let mut k = byte_by_byte(3, 1);
+    let mut turns: u64 = 1_000_000;
+    while turns > 0 {
+        if k.w > room.len() {
+            return n;
+        }
+        let right = case_right(k, stream, room, marks, wanted, ends);
+        n = more(n, right);
+        k = next(k, stream.len());
+        turns -= 1;
     }
     n
 }
@@ -342,10 +342,10 @@ fn main() {
     let other = two(25, 31);
     let mut room = bytes();
     let mut marks = two(0, 0);
-    let counts = every_room(&all, &mut room, &mut marks, &wanted, &ends);
+    let counts = every_case(&all, &mut room, &mut marks, &wanted, &ends);
     line(b"cases ", counts.cases);
     line(b"differences ", counts.differences);
-    let altered = every_room(&all, &mut room, &mut marks, &wanted, &other);
+    let altered = every_case(&all, &mut room, &mut marks, &wanted, &other);
     line(
         b"differences from an answer altered by one ",
         altered.differences,

@@ -1,4 +1,5 @@
--- However a stream is cut into pushes, what is handed out is what the rule gives for the bytes taken. For every reader and writer whose step gives its rule.
+-- However a stream is cut into pushes, what is handed out is what the rule gives for the bytes taken. For every reader and writer whose step gives
+-- its rule.
 use Prim.Native.Nat.{ℕ, suc, _+_, _-_, _≤_, zero-le, min}
 use native.Mathlib.Omega.{arith}
 use native.Mathlib.Nat.{add-zero, zero-add}
@@ -9,7 +10,8 @@ use mathlib.Core.List.{List, [], _∷_, _++_, append-assoc, append-nil, map-appe
 use mathlib.Core.Option.{Option, none, some}
 use lib.ListN.{length, take, drop, length-append, length-drop, length-take}
 use lib.Seq.{append-snoc, take-take, take-add}
-use Rattle.desk.specs.Push.{Out, Next, Answer, answers, marked, took, fits, run, pushOf, Gives, shifted, Pushes, Seen, seen, Follows, Cut}
+use Rattle.desk.specs.Push.{Out, Next, Entry, Answer, answers, marked, took, fits, run, pushOf, Gives, shifted, Pushes, Seen, seen, Follows}
+use Rattle.desk.specs.Push.{Cut}
 use Rattle.desk.proofs.Choice.{cond-by}
 use Rattle.desk.proofs.Room.{front, written-at-least}
 use Rattle.desk.proofs.Pushing.{run-ends, run-takes, run-stops, run-forbidden}
@@ -26,7 +28,8 @@ shifted-none [] = refl
 shifted-none (x ∷ l) = ap₂ {C = List ℕ} _∷_ (zero-add x) (shifted-none l)
 
 -- what a call wrote, read off its rooms
-module _ {S : Type 0} {a : Answer S} {out marks out′ marks′ : List ℕ} {number taken wrote markedN : ℕ} {s : S} (g : Gives a out marks out′ marks′ number taken wrote markedN s) where
+module _ {S : Type 0} {a : Answer S} {out marks out′ marks′ : List ℕ} {number taken wrote markedN : ℕ} {s : S}
+    (g : Gives a out marks out′ marks′ number taken wrote markedN s) where
   pub gave-bytes : take wrote out′ ≡ a .bytes
   gave-bytes = ap₂ take (g .wrote-is) (g .room) ∙ front out (a .bytes)
 
@@ -37,7 +40,8 @@ module _ {S : Type 0} {a : Answer S} {out marks out′ marks′ : List ℕ} {num
   gave-marks-fit = rw (g .mark-room, g .marked-is) (written-at-least marks (a .marks))
 
 -- what was taken of a push's chunk is the stream's next bytes
-pub taken-front : (n k taken : ℕ) (stream : List ℕ) → taken ≤ length (take k (drop n stream)) → take n stream ++ take taken (take k (drop n stream)) ≡ take (n + taken) stream
+pub taken-front : (n k taken : ℕ) (stream : List ℕ) → taken ≤ length (take k (drop n stream))
+    → take n stream ++ take taken (take k (drop n stream)) ≡ take (n + taken) stream
 taken-front n k taken stream h =
     let lens : length (take k (drop n stream)) ≡ min k (length stream - n) = length-take k (drop n stream) ∙ ap (min k) (length-drop n stream) in
     ap (λ (l : List ℕ). take n stream ++ l) (take-take taken k (drop n stream) (omega arith)) ∙ sym (take-add n taken stream)
@@ -55,11 +59,16 @@ module _ {S : Type 0} {next : Next S} {s₀ : S} {rule : List ℕ → Seen S} (f
       let e = w .seen-is in
       let g : rule h .bytes ≡ rule h₀ .bytes ++ a .bytes = ap (λ (v : Seen S). v .bytes) e in
       let n : length (rule h .bytes) ≡ length (rule h₀ .bytes) + length (a .bytes) = ap length g ∙ length-append (rule h₀ .bytes) (a .bytes) in
-      let m : rule h .ends ++ marked (o .mark) (rule h .bytes) ≡ rule h₀ .ends ++ shifted (length (rule h₀ .bytes)) (a .marks ++ marked (o .mark) (a .bytes)) =
-      ap₂ _++_ (ap (λ (v : Seen S). v .ends) e) (marked-by (o .mark) (rule h .bytes) (length (rule h₀ .bytes) + length (a .bytes)) n ∙ sym (shifted-mark (length (rule h₀ .bytes)) (o .mark) (a .bytes)))
+      let m : rule h .ends ++ marked (o .mark) (rule h .bytes) ≡ rule h₀ .ends ++ shifted (length (rule h₀ .bytes))
+      (a .marks ++ marked (o .mark) (a .bytes)) =
+      ap₂ _++_ (ap (λ (v : Seen S). v .ends) e)
+      (marked-by (o .mark) (rule h .bytes) (length (rule h₀ .bytes) + length (a .bytes)) n
+      ∙ sym (shifted-mark (length (rule h₀ .bytes)) (o .mark) (a .bytes)))
       ∙ append-assoc (rule h₀ .ends) (shifted (length (rule h₀ .bytes)) (a .marks)) _
-      ∙ ap (λ (l : List ℕ). rule h₀ .ends ++ l) (sym (map-append (λ (x : ℕ). length (rule h₀ .bytes) + x) (a .marks) (marked (o .mark) (a .bytes)))) in
-      let y : rule h .bytes ++ o .bytes ≡ rule h₀ .bytes ++ (a .bytes ++ o .bytes) = ap (λ (l : List ℕ). l ++ o .bytes) g ∙ append-assoc (rule h₀ .bytes) (a .bytes) (o .bytes) in
+      ∙ ap (λ (l : List ℕ). rule h₀ .ends ++ l)
+      (sym (map-append (λ (x : ℕ). length (rule h₀ .bytes) + x) (a .marks) (marked (o .mark) (a .bytes)))) in
+      let y : rule h .bytes ++ o .bytes ≡ rule h₀ .bytes ++ (a .bytes ++ o .bytes) =
+      ap (λ (l : List ℕ). l ++ o .bytes) g ∙ append-assoc (rule h₀ .bytes) (a .bytes) (o .bytes) in
       record { seen-is = f .more h b o (ap (λ (v : Seen S). next (v .state) b) e ∙ q) ∙ (λ i. seen (o .after) (y i) (m i)) }
 
   -- a run takes some bytes, and hands out what the rule gives for them
@@ -69,7 +78,8 @@ module _ {S : Type 0} {next : Next S} {s₀ : S} {rule : List ℕ → Seen S} (f
     taken : r .taken ≡ a .taken + count
     since : Since h₀ (h ++ take count bs) r
 
-  ran-none : (w m : ℕ) (h₀ h : List ℕ) (a : Answer S) (bs : List ℕ) (n : ℕ) → Since h₀ h a → Ran w m h₀ h a bs (record { number = n; taken = a .taken; bytes = a .bytes; marks = a .marks; after = a .after })
+  ran-none : (w m : ℕ) (h₀ h : List ℕ) (a : Answer S) (bs : List ℕ) (n : ℕ) → Since h₀ h a
+      → Ran w m h₀ h a bs (record { number = n; taken = a .taken; bytes = a .bytes; marks = a .marks; after = a .after })
   ran-none w m h₀ h a bs n q =
       record { count = 0; few = zero-le; taken = sym (add-zero (a .taken)); since = record { seen-is = ap rule (append-nil h) ∙ q .seen-is } }
 
@@ -77,7 +87,9 @@ module _ {S : Type 0} {next : Next S} {s₀ : S} {rule : List ℕ → Seen S} (f
   ran w m h₀ h a [] q = subst⁻¹ (Ran w m h₀ h a []) (run-ends next w m a) (ran-none w m h₀ h a [] (a .number) q)
   ran w m h₀ h a (b ∷ bs) q = go (next (a .after) b) refl (λ o e. ran w m h₀ (h ++ b ∷ []) (took a o) bs (since-more h₀ h a b o e q))
     where
-      go : (r : Option (Out S)) → next (a .after) b ≡ r → ((o : Out S) → next (a .after) b ≡ some o → Ran w m h₀ (h ++ b ∷ []) (took a o) bs (run next w m (took a o) bs)) → Ran w m h₀ h a (b ∷ bs) (run next w m a (b ∷ bs))
+      go : (r : Option (Out S)) → next (a .after) b ≡ r
+          → ((o : Out S) → next (a .after) b ≡ some o → Ran w m h₀ (h ++ b ∷ []) (took a o) bs (run next w m (took a o) bs))
+          → Ran w m h₀ h a (b ∷ bs) (run next w m a (b ∷ bs))
       go none e ih = subst⁻¹ (Ran w m h₀ h a (b ∷ bs)) (run-forbidden next w m a b bs e) (ran-none w m h₀ h a (b ∷ bs) 7 q)
       go (some o) e ih = fit (fits w m a o) refl
         where
@@ -86,7 +98,13 @@ module _ {S : Type 0} {next : Next S} {s₀ : S} {rule : List ℕ → Seen S} (f
           fit true d =
               let r = ih o e in
               subst⁻¹ (Ran w m h₀ h a (b ∷ bs)) (run-takes next w m a b bs o e d)
-              (record { count = suc (r .count); few = omega (arith, r .few); taken = r .taken ∙ omega arith; since = record { seen-is = ap rule (sym (append-snoc h b (take (r .count) bs))) ∙ r .since .seen-is } })
+              (record {
+                count = suc (r .count);
+                few = omega (arith, r .few);
+                taken = r .taken
+                    ∙ omega arith;
+                since = record { seen-is = ap rule (sym (append-snoc h b (take (r .count) bs))) ∙ r .since .seen-is };
+              })
 
   -- a push from the state of h, refused or not
   record Pushing (h chunk : List ℕ) (a : Answer S) : Type 0 where
@@ -95,7 +113,8 @@ module _ {S : Type 0} {next : Next S} {s₀ : S} {rule : List ℕ → Seen S} (f
 
   pushing : (h chunk : List ℕ) (s : S) (entry w m : ℕ) → rule h .state ≡ s → Pushing h chunk (pushOf next entry s chunk w m)
   unfolding pushOf
-  pushing h chunk s entry w m q = cond-by (Pushing h chunk) (eqb entry 0) (run next w m (answers 0 s) chunk) (answers entry s) (λ _. went) (λ _. refused)
+  pushing h chunk s entry w m q =
+      cond-by (Pushing h chunk) (eqb entry 0) (run next w m (answers 0 s) chunk) (answers entry s) (λ _. went) (λ _. refused)
     where
       refused : Pushing h chunk (answers entry s)
       refused = record { few = zero-le; since = record { seen-is = ap rule (append-nil h) ∙ since-none h entry s q .seen-is } }
@@ -104,13 +123,17 @@ module _ {S : Type 0} {next : Next S} {s₀ : S} {rule : List ℕ → Seen S} (f
       went =
           let r = ran w m h h (answers 0 s) chunk (since-none h 0 s q) in
           let e : run next w m (answers 0 s) chunk .taken ≡ r .count = omega (arith, r .taken) in
-          record { few = omega (arith, r .few); since = subst⁻¹ (λ (n : ℕ). Since h (h ++ take n chunk) (run next w m (answers 0 s) chunk)) e (r .since) }
+          record {
+            few = omega (arith, r .few);
+            since = subst⁻¹ (λ (n : ℕ). Since h (h ++ take n chunk) (run next w m (answers 0 s) chunk)) e (r .since);
+          }
 
   -- what a push took and handed out, from the state of h
   pub pushed-few : (h chunk : List ℕ) (s : S) (entry w m : ℕ) → rule h .state ≡ s → pushOf next entry s chunk w m .taken ≤ length chunk
   pushed-few h chunk s entry w m q = pushing h chunk s entry w m q .few
 
-  pub pushed-since : (h chunk : List ℕ) (s : S) (entry w m : ℕ) → rule h .state ≡ s → Since h (h ++ take (pushOf next entry s chunk w m .taken) chunk) (pushOf next entry s chunk w m)
+  pub pushed-since : (h chunk : List ℕ) (s : S) (entry w m : ℕ) → rule h .state ≡ s
+      → Since h (h ++ take (pushOf next entry s chunk w m .taken) chunk) (pushOf next entry s chunk w m)
   pushed-since h chunk s entry w m q = pushing h chunk s entry w m q .since
 
   cut-more : {stream : List ℕ} {n : ℕ} {s : S} {given ends : List ℕ} → Cut rule stream n s given ends
@@ -125,13 +148,19 @@ module _ {S : Type 0} {next : Next S} {s₀ : S} {rule : List ℕ → Seen S} (f
       let p = pushing h chunk s entry (length out) (length marks) (ap (λ (v : Seen S). v .state) e) in
       let few : taken ≤ length chunk = omega (arith, p .few, o .taken-is) in
       let lens : length chunk ≡ min k (length stream - n) = length-take k (drop n stream) ∙ ap (min k) (length-drop n stream) in
-      let all : h ++ take (a .taken) chunk ≡ take (n + taken) stream = ap (λ (x : ℕ). h ++ take x chunk) (sym (o .taken-is)) ∙ taken-front n k taken stream few in
+      let all : h ++ take (a .taken) chunk ≡ take (n + taken) stream =
+      ap (λ (x : ℕ). h ++ take x chunk) (sym (o .taken-is)) ∙ taken-front n k taken stream few in
       let bytes : rule h .bytes ++ a .bytes ≡ given ++ take wrote out′ = ap₂ _++_ (ap (λ (v : Seen S). v .bytes) e) (sym (gave-bytes o)) in
       let marksE : rule h .ends ++ shifted (length (rule h .bytes)) (a .marks) ≡ ends ++ shifted (length given) (take markedN marks′) =
       ap₂ _++_ (ap (λ (v : Seen S). v .ends) e) (ap₂ shifted (ap (λ (v : Seen S). length (v .bytes)) e) (sym (gave-marks o))) in
-      record { within = omega (arith, c .within); rule-gives = ap rule (sym all) ∙ p .since .seen-is ∙ (λ i. seen (sym (o .state-is) i) (bytes i) (marksE i)) }
+      record {
+        within = omega (arith, c .within);
+        rule-gives = ap rule (sym all) ∙ p .since .seen-is ∙ (λ i. seen (sym (o .state-is) i) (bytes i) (marksE i));
+      }
 
   -- AFTER EACH PUSH, HOWEVER THE STREAM IS CUT
-  pub pushes-cut : {entry : S → ℕ → ℕ → ℕ → ℕ} {stream : List ℕ} {n : ℕ} {s : S} {given ends : List ℕ} → Pushes next entry s₀ stream n s given ends → Cut rule stream n s given ends
+  pub pushes-cut : {entry : Entry S} {stream : List ℕ} {n : ℕ} {s : S} {given ends : List ℕ} → Pushes next entry s₀ stream n s given ends
+      → Cut rule stream n s given ends
   pushes-cut Pushes.none-yet = record { within = zero-le; rule-gives = f .new }
-  pushes-cut (Pushes.one-more p k out marks out′ marks′ number taken wrote markedN s′ o) = cut-more (pushes-cut p) _ k out marks out′ marks′ number taken wrote markedN s′ o
+  pushes-cut (Pushes.one-more p k out marks out′ marks′ number taken wrote markedN s′ o) =
+      cut-more (pushes-cut p) _ k out marks out′ marks′ number taken wrote markedN s′ o

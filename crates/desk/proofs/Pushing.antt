@@ -46,13 +46,15 @@ pub record Wrote (w n : ℕ) (x l l′ : List ℕ) : Type 0 where
   pub long : length l′ ≡ length l
 
 -- the part that was lent from w on came back with x at its front
-pub wrote : (w n : ℕ) (x l part : List ℕ) → w ≤ length l → n ≤ length l - w → length x ≡ n → part ≡ written (midOf w (length l - w) l) x → Wrote w n x l (putMid w (length l - w) l part)
+pub wrote : (w n : ℕ) (x l part : List ℕ) → w ≤ length l → n ≤ length l - w → length x ≡ n → part ≡ written (midOf w (length l - w) l) x
+    → Wrote w n x l (putMid w (length l - w) l part)
 unfolding written
 wrote w n x l part h k lx e =
     let mid : midOf w (length l - w) l ≡ drop w l = take-all (length l - w) (drop w l) (simp length-drop (le-refl _)) in
     let none : postOf w (length l - w) l ≡ [] = post-is w (length l) l h ∙ drop-length l in
     let is : putMid w (length l - w) l part ≡ (take w l ++ x) ++ drop (w + n) l =
-    ap₂ (λ (a b : List ℕ). take w l ++ (a ++ b)) (e ∙ ap₂ (λ (k : ℕ) (r : List ℕ). x ++ drop k r) lx mid ∙ ap (λ (r : List ℕ). x ++ r) (drop-drop n w l)) none ∙ simp (append-assoc, append-nil) in
+    ap₂ (λ (a b : List ℕ). take w l ++ (a ++ b))
+    (e ∙ ap₂ (λ (k : ℕ) (r : List ℕ). x ++ drop k r) lx mid ∙ ap (λ (r : List ℕ). x ++ r) (drop-drop n w l)) none ∙ simp (append-assoc, append-nil) in
     let len : length (take w l ++ x) ≡ w + n = length-append (take w l) x ∙ ap₂ _+_ (length-take-le w l h) lx in
     record {
       count = lx;
@@ -81,7 +83,8 @@ sofar out marks s t w m = record { number = 0; taken = t; bytes = take w out; ma
 
 -- the loop's invariant: what is left to do from here comes to what was to be done from the start
 pub record Going {S : Type 0} (next : Next S) (chunk out₀ marks₀ : List ℕ) (s₀ : S) (out marks : List ℕ) (s : S) (t w m : ℕ) : Type 0 where
-  pub same : run next (length out₀) (length marks₀) (answers 0 s₀) chunk ≡ run next (length out₀) (length marks₀) (sofar out marks s t w m) (drop t chunk)
+  pub same : run next (length out₀) (length marks₀) (answers 0 s₀) chunk
+      ≡ run next (length out₀) (length marks₀) (sofar out marks s t w m) (drop t chunk)
   pub few : t ≤ length chunk
   pub out-few : w ≤ length out
   pub marks-few : m ≤ length marks
@@ -92,12 +95,24 @@ pub record Going {S : Type 0} (next : Next S) (chunk out₀ marks₀ : List ℕ)
 
 pub going-none : {S : Type 0} (next : Next S) (chunk out marks : List ℕ) (s : S) → Going next chunk out marks s out marks s 0 0 0
 going-none next chunk out marks s =
-    record { same = refl; few = omega arith; out-few = omega arith; marks-few = omega arith; out-long = refl; marks-long = refl; out-kept = refl; marks-kept = refl }
+    record {
+      same = refl;
+      few = omega arith;
+      out-few = omega arith;
+      marks-few = omega arith;
+      out-long = refl;
+      marks-long = refl;
+      out-kept = refl;
+      marks-kept = refl;
+    }
 
-answer-is : {S : Type 0} (t : ℕ) {b b′ m m′ : List ℕ} {s : S} → b ≡ b′ → m ≡ m′ → _≡_ {A = Answer S} (record { number = 0; taken = t; bytes = b; marks = m; after = s }) (record { number = 0; taken = t; bytes = b′; marks = m′; after = s })
+answer-is : {S : Type 0} (t : ℕ) {b b′ m m′ : List ℕ} {s : S} → b ≡ b′ → m ≡ m′
+    → _≡_ {A = Answer S} (record { number = 0; taken = t; bytes = b; marks = m; after = s })
+    (record { number = 0; taken = t; bytes = b′; marks = m′; after = s })
 answer-is {S} t {b} {b′} {m} {m′} {s} p q i = record { number = 0; taken = t; bytes = p i; marks = q i; after = s }
 
-module _ {S : Type 0} {next : Next S} {chunk out₀ marks₀ : List ℕ} {s₀ : S} {out marks : List ℕ} {s : S} {t w m : ℕ} (g : Going next chunk out₀ marks₀ s₀ out marks s t w m) where
+module _ {S : Type 0} {next : Next S} {chunk out₀ marks₀ : List ℕ} {s₀ : S} {out marks : List ℕ} {s : S} {t w m : ℕ}
+    (g : Going next chunk out₀ marks₀ s₀ out marks s t w m) where
   abbrev Ran : Answer S → Type 0
   Ran a = run next (length out₀) (length marks₀) (answers 0 s₀) chunk ≡ a
 
@@ -109,7 +124,9 @@ module _ {S : Type 0} {next : Next S} {chunk out₀ marks₀ : List ℕ} {s₀ :
 
   module _ {b : ℕ} (h : t < length chunk) (e : b ≡ getD chunk t 0) where
     at-byte : Ran (run next (length out₀) (length marks₀) (sofar out marks s t w m) (b ∷ drop (t + 1) chunk))
-    at-byte = g .same ∙ ap (run next (length out₀) (length marks₀) (sofar out marks s t w m)) (drop-cons chunk t 0 h ∙ ap₂ {C = List ℕ} (λ x n. x ∷ drop n chunk) (sym e) (sym (add-one t)))
+    at-byte =
+        g .same ∙ ap (run next (length out₀) (length marks₀) (sofar out marks s t w m))
+        (drop-cons chunk t 0 h ∙ ap₂ {C = List ℕ} (λ x n. x ∷ drop n chunk) (sym e) (sym (add-one t)))
 
     -- the byte is forbidden
     pub stop-forbidden : next s b ≡ none → Ran (forbidden (sofar out marks s t w m))
@@ -128,7 +145,8 @@ module _ {S : Type 0} {next : Next S} {chunk out₀ marks₀ : List ℕ} {s₀ :
       pub stop-full-marks : length marks - m < k → Ran (sofar out marks s t w m)
       stop-full-marks f =
           at-byte ∙ run-stops next (length out₀) (length marks₀) (sofar out marks s t w m) b (drop (t + 1) chunk) o q
-          (fits-is ∙ ap (λ (c : Bool). leb (w + n) (length out₀) && c) (lt-leb (m + k) (length marks₀) (omega arith)) ∙ and-false (leb (w + n) (length out₀)))
+          (fits-is ∙ ap (λ (c : Bool). leb (w + n) (length out₀) && c) (lt-leb (m + k) (length marks₀) (omega arith))
+          ∙ and-false (leb (w + n) (length out₀)))
 
       -- it is taken
       pub going-more : {out′ marks′ : List ℕ} → Wrote w n (o .bytes) out out′ → Wrote m k (marked (o .mark) (take w out)) marks marks′
@@ -137,8 +155,10 @@ module _ {S : Type 0} {next : Next S} {chunk out₀ marks₀ : List ℕ} {s₀ :
           record {
             same =
                 at-byte ∙ run-takes next (length out₀) (length marks₀) (sofar out marks s t w m) b (drop (t + 1) chunk) o q
-                (fits-is ∙ ap₂ _&&_ (le-leb (w + n) (length out₀) (omega (arith, wo .room))) (le-leb (m + k) (length marks₀) (omega (arith, wm .room))))
-                ∙ ap (λ (a : Answer S). run next (length out₀) (length marks₀) a (drop (t + 1) chunk)) (answer-is (t + 1) (sym (wo .front)) (sym (wm .front)));
+                (fits-is ∙ ap₂ _&&_ (le-leb (w + n) (length out₀) (omega (arith, wo .room)))
+                (le-leb (m + k) (length marks₀) (omega (arith, wm .room))))
+                ∙ ap (λ (a : Answer S). run next (length out₀) (length marks₀) a (drop (t + 1) chunk))
+                (answer-is (t + 1) (sym (wo .front)) (sym (wm .front)));
             few = omega arith;
             out-few = omega (arith, wo .room, wo .long);
             marks-few = omega (arith, wm .room, wm .long);
@@ -150,7 +170,9 @@ module _ {S : Type 0} {next : Next S} {chunk out₀ marks₀ : List ℕ} {s₀ :
 
   -- no byte is left
   pub stop-end : length chunk ≤ t → Ran (sofar out marks s t w m)
-  stop-end k = g .same ∙ ap (run next (length out₀) (length marks₀) (sofar out marks s t w m)) (drop-of-length-le chunk k) ∙ run-ends next (length out₀) (length marks₀) _
+  stop-end k =
+      g .same ∙ ap (run next (length out₀) (length marks₀) (sofar out marks s t w m)) (drop-of-length-le chunk k)
+      ∙ run-ends next (length out₀) (length marks₀) _
 
   -- what the call then returns, by what the run came to
   module _ (entry : ℕ) (z : entry ≡ 0) where
@@ -158,16 +180,36 @@ module _ {S : Type 0} {next : Next S} {chunk out₀ marks₀ : List ℕ} {s₀ :
     unfolding pushOf
     goes = rw z
 
-    pub gives : (n : ℕ) → Ran (record { number = n; taken = t; bytes = take w out; marks = take m marks; after = s }) → Gives (pushOf next entry s₀ chunk (length out₀) (length marks₀)) out₀ marks₀ out marks n t w m s
+    pub gives : (n : ℕ) → Ran (record { number = n; taken = t; bytes = take w out; marks = take m marks; after = s })
+        → Gives (pushOf next entry s₀ chunk (length out₀) (length marks₀)) out₀ marks₀ out marks n t w m s
     gives n q =
         subst⁻¹ (λ (a : Answer S). Gives a out₀ marks₀ out marks n t w m s) (goes ∙ q)
-        (record { number-is = refl; taken-is = refl; wrote-is = sym out-len; marked-is = sym marks-len; state-is = refl; room = whole w out out₀ (g .out-few) (g .out-kept); mark-room = whole m marks marks₀ (g .marks-few) (g .marks-kept) })
+        (record {
+          number-is = refl;
+          taken-is = refl;
+          wrote-is = sym out-len;
+          marked-is = sym marks-len;
+          state-is = refl;
+          room = whole w out out₀
+              (g .out-few) (g .out-kept);
+          mark-room = whole m marks marks₀ (g .marks-few) (g .marks-kept);
+        })
 
 -- a call that answers a number alone
 pub gives-alone : {S : Type 0} (n : ℕ) (s : S) (out marks : List ℕ) → Gives (answers n s) out marks out marks n 0 0 0 s
-gives-alone n s out marks = record { number-is = refl; taken-is = refl; wrote-is = refl; marked-is = refl; state-is = refl; room = written-none out; mark-room = written-none marks }
+gives-alone n s out marks =
+    record {
+      number-is = refl;
+      taken-is = refl;
+      wrote-is = refl;
+      marked-is = refl;
+      state-is = refl;
+      room = written-none out;
+      mark-room = written-none marks;
+    }
 
 -- a push that the entry checks refuse
-pub gives-refused : {S : Type 0} (next : Next S) (entry : ℕ) (s : S) (chunk out marks : List ℕ) → (entry ≡ 0 → ⊥) → Gives (pushOf next entry s chunk (length out) (length marks)) out marks out marks entry 0 0 0 s
+pub gives-refused : {S : Type 0} (next : Next S) (entry : ℕ) (s : S) (chunk out marks : List ℕ) → (entry ≡ 0 → ⊥)
+    → Gives (pushOf next entry s chunk (length out) (length marks)) out marks out marks entry 0 0 0 s
 unfolding pushOf
 gives-refused next entry s chunk out marks h = rw (ne-eqb entry 0 h) (gives-alone entry s out marks)

@@ -1,7 +1,7 @@
 -- A rule goes on from any history as the rule of the state reached there. For every reader and writer whose step gives its rule.
 use Prim.Native.Nat.{ℕ}
 use mathlib.Core.Path.{_≡_, refl, ap, sym, _∙_, subst}
-use mathlib.Core.Bool.{true, false, false≢true}
+use mathlib.Core.Bool.{true, false≢true}
 use mathlib.Core.List.{List, [], _∷_, _++_, append-assoc, append-nil}
 use mathlib.Core.Option.{Option, none, some}
 use lib.ListN.{length}
@@ -9,7 +9,8 @@ use lib.Seq.{append-snoc}
 use Rattle.desk.specs.Push.{Out, Next, Answer, answers, took, shifted, Seen, seen, Follows, acceptsBy, accepts}
 use Rattle.desk.proofs.Cutting.{Since, since-none, since-more, shifted-none}
 
-module _ {S : Type 0} {next : Next S} {s₀ : S} {rule rule′ : List ℕ → Seen S} (f : Follows next s₀ rule) (h : List ℕ) (g : Follows next (rule h .state) rule′) where
+module _ {S : Type 0} {next : Next S} {s₀ : S} {rule rule′ : List ℕ → Seen S} (f : Follows next s₀ rule) (h : List ℕ)
+    (g : Follows next (rule h .state) rule′) where
   -- one answer that tells what both rules give for the bytes t
   record Both (t : List ℕ) : Type 0 where
     answer : Answer S
@@ -51,4 +52,5 @@ module _ {S : Type 0} {next : Next S} {s₀ : S} {rule rule′ : List ℕ → Se
       b .here .seen-is
       ∙ ap (λ (v : Seen S). seen (a .after) (v .bytes ++ a .bytes) (v .ends ++ shifted (length (v .bytes)) (a .marks))) (g .new)
       ∙ ap (seen (a .after) (a .bytes)) (shifted-none (a .marks)) in
-      b .there .seen-is ∙ ap (λ (v : Seen S). seen (v .state) (rule h .bytes ++ v .bytes) (rule h .ends ++ shifted (length (rule h .bytes)) (v .ends))) (sym e)
+      b .there .seen-is ∙ ap
+      (λ (v : Seen S). seen (v .state) (rule h .bytes ++ v .bytes) (rule h .ends ++ shifted (length (rule h .bytes)) (v .ends))) (sym e)

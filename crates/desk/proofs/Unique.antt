@@ -5,7 +5,8 @@ use mathlib.Core.List.{List}
 use Rattle.desk.specs.Push.{Answer, Gives}
 
 -- two outcomes that meet one contract
-pub record Same {S : Type 0} (out₁ out₂ marks₁ marks₂ : List ℕ) (number₁ number₂ taken₁ taken₂ wrote₁ wrote₂ marked₁ marked₂ : ℕ) (state₁ state₂ : S) : Type 0 where
+pub record Same {S : Type 0} (out₁ out₂ marks₁ marks₂ : List ℕ) (number₁ number₂ taken₁ taken₂ wrote₁ wrote₂ marked₁ marked₂ : ℕ)
+    (state₁ state₂ : S) : Type 0 where
   pub out : out₁ ≡ out₂
   pub marks : marks₁ ≡ marks₂
   pub number : number₁ ≡ number₂
@@ -14,7 +15,8 @@ pub record Same {S : Type 0} (out₁ out₂ marks₁ marks₂ : List ℕ) (numbe
   pub marked : marked₁ ≡ marked₂
   pub state : state₁ ≡ state₂
 
-pub one-outcome : {S : Type 0} {a : Answer S} {out marks out₁ out₂ marks₁ marks₂ : List ℕ} {number₁ number₂ taken₁ taken₂ wrote₁ wrote₂ marked₁ marked₂ : ℕ} {state₁ state₂ : S}
+pub one-outcome : {S : Type 0} {a : Answer S} {out marks out₁ out₂ marks₁ marks₂ : List ℕ}
+    {number₁ number₂ taken₁ taken₂ wrote₁ wrote₂ marked₁ marked₂ : ℕ} {state₁ state₂ : S}
     → Gives a out marks out₁ marks₁ number₁ taken₁ wrote₁ marked₁ state₁ → Gives a out marks out₂ marks₂ number₂ taken₂ wrote₂ marked₂ state₂
     → Same out₁ out₂ marks₁ marks₂ number₁ number₂ taken₁ taken₂ wrote₁ wrote₂ marked₁ marked₂ state₁ state₂
 one-outcome p q =

@@ -1,6 +1,5 @@
 -- A PUSH, WHATEVER THE READER OR WRITER IS: bytes are taken from the front, one after another, while all that the next byte releases fits.
 -- What one byte does is the crate's own (`Next`); what a push makes of it, and what pushes come to however a stream is cut, is said here once.
--- Assumes nothing: these are definitions.
 use Prim.Native.Nat.{ℕ, _+_, _≤_, _<_}
 use mathlib.Core.Path.{_≡_}
 use mathlib.Core.Bool.{Bool, true, false, cond, _&&_}
@@ -39,7 +38,14 @@ marked c l = cond c (length l ∷ []) []
 
 -- a byte more is taken
 abbrev pub took : {S : Type 0} → Answer S → Out S → Answer S
-took a o = record { number = a .number; taken = a .taken + 1; bytes = a .bytes ++ o .bytes; marks = a .marks ++ marked (o .mark) (a .bytes); after = o .after }
+took a o =
+    record {
+      number = a .number;
+      taken = a .taken + 1;
+      bytes = a .bytes ++ o .bytes;
+      marks = a .marks ++ marked (o .mark) (a .bytes);
+      after = o .after;
+    }
 
 -- all that a byte releases fits rooms of w bytes and m marks
 abbrev pub fits : {S : Type 0} → ℕ → ℕ → Answer S → Out S → Bool
@@ -62,6 +68,14 @@ run next w m a (b ∷ bs) = onward w m a (next (a .after) b) (λ o. run next w m
 unfoldable pub pushOf : {S : Type 0} → Next S → ℕ → S → List ℕ → ℕ → ℕ → Answer S
 pushOf next entry s chunk w m = cond (eqb entry done) (run next w m (answers done s) chunk) (answers entry s)
 
+-- the entry checks: a number, by the state and by the lengths of the chunk and of both rooms
+abbrev pub Entry : Type 0 → Type 0
+Entry S = S → ℕ → ℕ → ℕ → ℕ
+
+-- a push with its own entry checks
+abbrev pub pushBy : {S : Type 0} → Next S → Entry S → S → List ℕ → ℕ → ℕ → Answer S
+pushBy next entry s chunk w m = pushOf next (entry s (length chunk) w m) s chunk w m
+
 -- A CALL'S OUTCOME IS THE ANSWER: what it returns, and all of both rooms after it
 pub record Gives {S : Type 0} (a : Answer S) (out marks out′ marks′ : List ℕ) (number taken wrote markedN : ℕ) (state : S) : Type 0 where
   pub number-is : number ≡ a .number
@@ -78,14 +92,19 @@ pub record Gives {S : Type 0} (a : Answer S) (out marks out′ marks′ : List �
 abbrev pub shifted : ℕ → List ℕ → List ℕ
 shifted k l = map (λ (x : ℕ). k + x) l
 
+-- A PUSH THAT IS LENT THE NEXT k BYTES, behind the n that were taken, and any rooms: any outcome that its contract allows
+abbrev pub PushesOn : {S : Type 0} → Next S → Entry S → List ℕ → ℕ → S → ℕ → List ℕ → List ℕ → List ℕ → List ℕ → ℕ → ℕ → ℕ → ℕ → S → Type 0
+PushesOn next entry stream n s k out marks out′ marks′ number taken wrote markedN s′ =
+    Gives (pushBy next entry s (take k (drop n stream)) (length out) (length marks)) out marks out′ marks′ number taken wrote markedN s′
+
 -- After some pushes of the stream from the state s₀, with no reset between: n bytes taken, the state, the joined bytes and the ends handed out.
 -- Each push is lent the next k bytes, for any k, and any rooms, and any outcome that its contract allows is gone on from, at the count it took:
 -- refused pushes too.
-pub data Pushes {S : Type 0} (next : Next S) (entry : S → ℕ → ℕ → ℕ → ℕ) (s₀ : S) (stream : List ℕ) : ℕ → S → List ℕ → List ℕ → Type 0 where
+pub data Pushes {S : Type 0} (next : Next S) (entry : Entry S) (s₀ : S) (stream : List ℕ) : ℕ → S → List ℕ → List ℕ → Type 0 where
   none-yet : Pushes next entry s₀ stream 0 s₀ [] []
   one-more : {n : ℕ} {s : S} {given ends : List ℕ} → Pushes next entry s₀ stream n s given ends
       → (k : ℕ) (out marks out′ marks′ : List ℕ) (number taken wrote markedN : ℕ) (s′ : S)
-      → Gives (pushOf next (entry s (length (take k (drop n stream))) (length out) (length marks)) s (take k (drop n stream)) (length out) (length marks)) out marks out′ marks′ number taken wrote markedN s′
+      → PushesOn next entry stream n s k out marks out′ marks′ number taken wrote markedN s′
       → Pushes next entry s₀ stream (n + taken) s′ (given ++ take wrote out′) (ends ++ shifted (length given) (take markedN marks′))
 
 -- what is to be seen once some bytes are taken: the state, the joined bytes, and the ends as places in them
@@ -134,12 +153,25 @@ pub record Longest {S : Type 0} (next : Next S) (rule : List ℕ → Seen S) (h 
   pub fit : Fits rule h (take (a .taken) chunk) w m
   pub longest : (n : ℕ) → n ≤ length chunk → accepts next (rule h .state) (take n chunk) ≡ true → Fits rule h (take n chunk) w m → n ≤ a .taken
   pub number-7 : a .number ≡ forbiddenByte → (a .taken < length chunk) × (next (a .after) (getD chunk (a .taken) 0) ≡ none)
-  pub number-0 : (a .number ≡ forbiddenByte → ⊥) → (a .number ≡ done) × (a .taken < length chunk → next (a .after) (getD chunk (a .taken) 0) ≡ none → ⊥)
+  pub number-0 : (a .number ≡ forbiddenByte → ⊥)
+      → (a .number ≡ done) × (a .taken < length chunk → next (a .after) (getD chunk (a .taken) 0) ≡ none → ⊥)
 
--- one push of a whole list: all of it is taken, and all is what the rule gives for it
-pub record WholePush {S : Type 0} (rule : List ℕ → Seen S) (chunk : List ℕ) (a : Answer S) : Type 0 where
-  pub number : a .number ≡ done
-  pub taken : a .taken ≡ length chunk
-  pub bytes : a .bytes ≡ rule chunk .bytes
-  pub marks : a .marks ≡ rule chunk .ends
-  pub state : a .after ≡ rule chunk .state
+-- ---- pushes, and one push; and that there are pushes
+
+-- the answer of one push that does what pushes came to: done, n bytes taken, these bytes and ends handed out, and this state
+abbrev pub cameTo : {S : Type 0} → ℕ → S → List ℕ → List ℕ → Answer S
+cameTo n s given ends = record { number = done; taken = n; bytes = given; marks = ends; after = s }
+
+-- each push of a trace was lent w bytes and m marks
+abbrev pub Lent : {S : Type 0} {next : Next S} {entry : Entry S} {s₀ : S} {stream : List ℕ} {n : ℕ} {s : S} {given ends : List ℕ}
+    → ℕ → ℕ → Pushes next entry s₀ stream n s given ends → Type 0
+Lent w m Pushes.none-yet = Unit
+Lent w m (Pushes.one-more p k out marks out′ marks′ number taken wrote markedN s′ o) = (length out ≡ w) × (length marks ≡ m) × Lent w m p
+
+-- THERE IS A WAY: pushes that take n bytes of the stream, each lent w bytes and m marks and no more
+pub record Way {S : Type 0} (next : Next S) (entry : Entry S) (s₀ : S) (stream : List ℕ) (n w m : ℕ) : Type 0 where
+  pub state : S
+  pub given : List ℕ
+  pub ends : List ℕ
+  pub pushes : Pushes next entry s₀ stream n state given ends
+  pub lent : Lent w m pushes

@@ -1,4 +1,5 @@
--- There and back: escaped bytes are legal and unescape to what was written; a legal list that does not end in a removed 03 is the escape of its unescape.
+-- There and back: escaped bytes are legal and unescape to what was written; a legal list that does not end in a removed 03 is the escape of its
+-- unescape.
 use Prim.Native.Nat.{ℕ, zero, suc, _+_, _≤_}
 use native.Mathlib.Omega.{arith}
 use mathlib.Core.Path.{_≡_, refl, ap, ap₂, sym, _∙_, subst}
@@ -6,7 +7,8 @@ use mathlib.Core.Bool.{Bool, true, false, cond, not, _&&_, false≢true, and-fal
 use mathlib.Core.List.{List, [], _∷_, _++_, append-assoc, append-nil}
 use mathlib.Core.Option.{Option, none, some}
 use lib.ListN.{length}
-use Rattle.desk.specs.Search.{is3, upTo2, upTo3, trail, two}
+use Rattle.desk.specs.Search.{is3, upTo2, upTo3, trail}
+use Rattle.desk.specs.Zeros.{two}
 use Rattle.desk.proofs.Lists.{snoc-ind, trail-few}
 use Rattle.desk.proofs.Search.{trail-more, none≢some}
 use Rattle.rbsp.specs.Rule.{escape, unescape, Legal, firstBreak, endsThree}
@@ -65,7 +67,8 @@ read-behind : (h g : List ℕ) (b : ℕ) → Readable h g → two (trail g) ≡ 
 read-behind h g b r t u =
     let g′ = g ++ 3 ∷ [] in
     let three : endsThree g′ ≡ true = ends-three-more g 3 ∙ ap (λ (c : Bool). c && true) t in
-    let bytes′ : unescape g′ ≡ h = unescape-more g 3 ∙ ap₂ (λ (l : List ℕ) (c : Bool). l ++ cond (c && true) [] (3 ∷ [])) (r .bytes) t ∙ append-nil h in
+    let bytes′ : unescape g′ ≡ h =
+    unescape-more g 3 ∙ ap₂ (λ (l : List ℕ) (c : Bool). l ++ cond (c && true) [] (3 ∷ [])) (r .bytes) t ∙ append-nil h in
     let unbroken′ : firstBreak g′ ≡ none =
     break-more g 3 (r .unbroken)
     ∙ ap (λ (c : Bool). cond (cond c false (two (trail g) && false)) (some (length g)) none) (r .ends)
@@ -80,9 +83,12 @@ read-behind h g b r t u =
 
 readable : (h : List ℕ) → Readable h (escape h)
 unfolding escape unescape
-readable = snoc-ind (λ (h : List ℕ). Readable h (escape h)) (record { ends = refl; bytes = refl; unbroken = refl }) (λ h b r. subst (Readable (h ++ b ∷ [])) (sym (escape-more h b)) (go h b r (stuffs (trail (escape h)) b) refl))
+readable =
+    snoc-ind (λ (h : List ℕ). Readable h (escape h)) (record { ends = refl; bytes = refl; unbroken = refl })
+    (λ h b r. subst (Readable (h ++ b ∷ [])) (sym (escape-more h b)) (go h b r (stuffs (trail (escape h)) b) refl))
   where
-    go : (h : List ℕ) (b : ℕ) → Readable h (escape h) → (c : Bool) → stuffs (trail (escape h)) b ≡ c → Readable (h ++ b ∷ []) (escape h ++ cond c (3 ∷ b ∷ []) (b ∷ []))
+    go : (h : List ℕ) (b : ℕ) → Readable h (escape h) → (c : Bool) → stuffs (trail (escape h)) b ≡ c
+        → Readable (h ++ b ∷ []) (escape h ++ cond c (3 ∷ b ∷ []) (b ∷ []))
     go h b r true e = let q = stuffs-two (trail (escape h)) b e in read-behind h (escape h) b r (q .0) (q .1)
     go h b r false e = read-alone h (escape h) b r e
 
@@ -100,7 +106,7 @@ escape-legal s = none-legal (escape s) (escape-unbroken s)
 -- ---- and back
 
 -- what writing makes of an unescaped list
-record Written (s u : List ℕ) : Type 0 where
+record Rewrites (s u : List ℕ) : Type 0 where
   whole : escape u ++ cond (endsThree s) (3 ∷ []) [] ≡ s
   zeros : trail (escape u) ≡ cond (endsThree s) 2 (trail s)
 
@@ -141,9 +147,9 @@ not-not : (c : Bool) → not c ≡ false → c ≡ true
 not-not true e = refl
 not-not false e = sym e
 
-module _ (s : List ℕ) (b : ℕ) (w : Written s (unescape s)) where
+module _ (s : List ℕ) (b : ℕ) (w : Rewrites s (unescape s)) where
   -- behind a removed 03: writing puts it back
-  write-behind : endsThree s ≡ true → upTo3 b ≡ true → Written (s ++ b ∷ []) (unescape (s ++ b ∷ []))
+  write-behind : endsThree s ≡ true → upTo3 b ≡ true → Rewrites (s ++ b ∷ []) (unescape (s ++ b ∷ []))
   write-behind t u =
       let z : trail s ≡ 0 = ends-three-trail s t in
       let g = escape (unescape s) in
@@ -152,7 +158,8 @@ module _ (s : List ℕ) (b : ℕ) (w : Written s (unescape s)) where
       let no : endsThree (s ++ b ∷ []) ≡ false = ends-three-more s b ∙ ap (λ (n : ℕ). two n && is3 b) z in
       let un : unescape (s ++ b ∷ []) ≡ unescape s ++ b ∷ [] = unescape-more s b ∙ ap (λ (n : ℕ). unescape s ++ kept n b) z in
       let es : escape (unescape (s ++ b ∷ [])) ≡ s ++ b ∷ [] =
-      ap escape un ∙ escape-more (unescape s) b ∙ ap₂ (λ (n : ℕ) (c : Bool). g ++ cond (two n && c) (3 ∷ b ∷ []) (b ∷ [])) two-zeros u ∙ sym (append-assoc g (3 ∷ []) (b ∷ [])) ∙ ap (λ (l : List ℕ). l ++ b ∷ []) back in
+      ap escape un ∙ escape-more (unescape s) b ∙ ap₂ (λ (n : ℕ) (c : Bool). g ++ cond (two n && c) (3 ∷ b ∷ []) (b ∷ [])) two-zeros u
+      ∙ sym (append-assoc g (3 ∷ []) (b ∷ [])) ∙ ap (λ (l : List ℕ). l ++ b ∷ []) back in
       record { whole = rw no (append-nil _ ∙ es); zeros = rw no (ap trail es) }
 
   -- elsewhere, what is written so far is what was read
@@ -160,13 +167,17 @@ module _ (s : List ℕ) (b : ℕ) (w : Written s (unescape s)) where
     same : escape (unescape s) ≡ s
     same = sym (append-nil _) ∙ ap (λ (c : Bool). escape (unescape s) ++ cond c (3 ∷ []) []) (sym f) ∙ w .whole
 
-    write-removed : (two (trail s) && is3 b) ≡ true → Written (s ++ b ∷ []) (unescape (s ++ b ∷ []))
+    write-removed : (two (trail s) && is3 b) ≡ true → Rewrites (s ++ b ∷ []) (unescape (s ++ b ∷ []))
     write-removed r =
-        let un : unescape (s ++ b ∷ []) ≡ unescape s = unescape-more s b ∙ ap (λ (c : Bool). unescape s ++ cond c [] (b ∷ [])) r ∙ append-nil (unescape s) in
+        let un : unescape (s ++ b ∷ []) ≡ unescape s =
+        unescape-more s b ∙ ap (λ (c : Bool). unescape s ++ cond c [] (b ∷ [])) r ∙ append-nil (unescape s) in
         let yes : endsThree (s ++ b ∷ []) ≡ true = ends-three-more s b ∙ r in
         let b3 : b ≡ 3 = is3-is b (right (two (trail s)) r) in
         let es : escape (unescape (s ++ b ∷ [])) ≡ s = ap escape un ∙ same in
-        record { whole = rw yes (ap₂ (λ (l : List ℕ) (n : ℕ). l ++ n ∷ []) es (sym b3)); zeros = rw yes (ap trail es ∙ two-is (trail s) (trail-few s) (left (two (trail s)) r)) }
+        record {
+          whole = rw yes (ap₂ (λ (l : List ℕ) (n : ℕ). l ++ n ∷ []) es (sym b3));
+          zeros = rw yes (ap trail es ∙ two-is (trail s) (trail-few s) (left (two (trail s)) r));
+        }
       where
         left : (c : Bool) → (c && is3 b) ≡ true → c ≡ true
         left true e = refl
@@ -176,30 +187,32 @@ module _ (s : List ℕ) (b : ℕ) (w : Written s (unescape s)) where
         right true e = e
         right false e = absurd (false≢true e)
 
-    write-alone : (two (trail s) && is3 b) ≡ false → Written (s ++ b ∷ []) (unescape (s ++ b ∷ []))
+    write-alone : (two (trail s) && is3 b) ≡ false → Rewrites (s ++ b ∷ []) (unescape (s ++ b ∷ []))
     write-alone r =
         let un : unescape (s ++ b ∷ []) ≡ unescape s ++ b ∷ [] = unescape-more s b ∙ ap (λ (c : Bool). unescape s ++ cond c [] (b ∷ [])) r in
         let no : endsThree (s ++ b ∷ []) ≡ false = ends-three-more s b ∙ r in
         let es : escape (unescape (s ++ b ∷ [])) ≡ s ++ b ∷ [] =
-        ap escape un ∙ escape-more (unescape s) b ∙ ap (λ (l : List ℕ). l ++ let-out (trail l) b) same ∙ ap (λ (c : Bool). s ++ cond c (3 ∷ b ∷ []) (b ∷ [])) (not-stuffed (trail s) b forb r) in
+        ap escape un ∙ escape-more (unescape s) b ∙ ap (λ (l : List ℕ). l ++ let-out (trail l) b) same
+        ∙ ap (λ (c : Bool). s ++ cond c (3 ∷ b ∷ []) (b ∷ [])) (not-stuffed (trail s) b forb r) in
         record { whole = rw no (append-nil _ ∙ es); zeros = rw no (ap trail es) }
 
-  write-more : forbids s b ≡ false → Written (s ++ b ∷ []) (unescape (s ++ b ∷ []))
+  write-more : forbids s b ≡ false → Rewrites (s ++ b ∷ []) (unescape (s ++ b ∷ []))
   write-more e = go (endsThree s) refl e (two (trail s) && is3 b) refl
     where
-      go : (c : Bool) → endsThree s ≡ c → cond c (not (upTo3 b)) (two (trail s) && upTo2 b) ≡ false → (d : Bool) → (two (trail s) && is3 b) ≡ d → Written (s ++ b ∷ []) (unescape (s ++ b ∷ []))
+      go : (c : Bool) → endsThree s ≡ c → cond c (not (upTo3 b)) (two (trail s) && upTo2 b) ≡ false → (d : Bool) → (two (trail s) && is3 b) ≡ d
+          → Rewrites (s ++ b ∷ []) (unescape (s ++ b ∷ []))
       go true q f d r = write-behind q (not-not (upTo3 b) f)
       go false q f true r = write-removed q f r
       go false q f false r = write-alone q f r
 
-written : (s : List ℕ) → firstBreak s ≡ none → Written s (unescape s)
+rewritten : (s : List ℕ) → firstBreak s ≡ none → Rewrites s (unescape s)
 unfolding escape unescape
-written =
-    snoc-ind (λ (s : List ℕ). firstBreak s ≡ none → Written s (unescape s)) (λ e. record { whole = refl; zeros = refl })
+rewritten =
+    snoc-ind (λ (s : List ℕ). firstBreak s ≡ none → Rewrites s (unescape s)) (λ e. record { whole = refl; zeros = refl })
     (λ s b ih e. let q = unbroken-before s b e in write-more s b (ih (q .0)) (q .1))
 
 -- UNESCAPING THEN ESCAPING GIVES THE ORIGINAL TOO, unless its last byte is a removed 03
 pub escape-unescape : (s : List ℕ) → Legal s → endsThree s ≡ false → escape (unescape s) ≡ s
 escape-unescape s l f =
-    let w = written s (legal-none s l) in
+    let w = rewritten s (legal-none s l) in
     sym (append-nil _) ∙ ap (λ (c : Bool). escape (unescape s) ++ cond c (3 ∷ []) []) (sym f) ∙ w .whole

@@ -1,4 +1,5 @@
--- What shall not occur (Rec 7.4.1): the first break is the first, both directions; one byte more; and the reader forbids exactly the byte that completes it.
+-- What shall not occur (Rec 7.4.1): the first break is the first, both directions; one byte more; and the reader forbids exactly the byte that
+-- completes it.
 use Prim.Native.Nat.{ℕ, zero, suc, _+_, _-_, _<_}
 use native.Mathlib.Nat.{not-suc-le-zero, le-of-suc-le-suc}
 use native.Mathlib.Omega.{arith}
@@ -10,7 +11,8 @@ use mathlib.Core.Option.{Option, none, some, Option·some-injective}
 use lib.ListN.{length, drop}
 use lib.Seq.{drop-nil}
 use Rattle.desk.specs.Push.{Out}
-use Rattle.desk.specs.Search.{upTo2, upTo3, stands, next as further, trail, two}
+use Rattle.desk.specs.Search.{upTo2, upTo3, stands, next as further, trail}
+use Rattle.desk.specs.Zeros.{two}
 use Rattle.desk.proofs.Search.{none≢some}
 use Rattle.rbsp.specs.Rule.{Legal, badFour, firstBreak, endsThree}
 use Rattle.rbsp.specs.Step.{next, readerAt}
@@ -60,12 +62,23 @@ pub first-break-is : (s : List ℕ) (k : ℕ) → firstBreak s ≡ some k → Br
 first-break-is [] k e = absurd (none≢some e)
 first-break-is (x ∷ s) k e = go (stands upTo2 (x ∷ s)) refl (badFour (x ∷ s)) refl (firstBreak s) refl (λ j q. first-break-is s j q) e
   where
-    go : (a : Bool) → stands upTo2 (x ∷ s) ≡ a → (b : Bool) → badFour (x ∷ s) ≡ b → (r : Option ℕ) → firstBreak s ≡ r → ((j : ℕ) → firstBreak s ≡ some j → Breaks s j)
+    go : (a : Bool) → stands upTo2 (x ∷ s) ≡ a → (b : Bool) → badFour (x ∷ s) ≡ b → (r : Option ℕ) → firstBreak s ≡ r
+        → ((j : ℕ) → firstBreak s ≡ some j → Breaks s j)
         → cond a (some 2) (cond b (some 3) (further r)) ≡ some k → Breaks (x ∷ s) k
     go true ea b eb r er ih e =
-        record { place = 0; window = inl (ea, sym (Option·some-injective 2 k e)); no-three = λ j h. absurd (not-suc-le-zero h); no-four = λ j h. absurd (not-suc-le-zero h) }
+        record {
+          place = 0;
+          window = inl (ea, sym (Option·some-injective 2 k e));
+          no-three = λ j h. absurd (not-suc-le-zero h);
+          no-four = λ j h. absurd (not-suc-le-zero h);
+        }
     go false ea true eb r er ih e =
-        record { place = 0; window = inr (eb, sym (Option·some-injective 3 k e)); no-three = λ j h. absurd (not-suc-le-zero h); no-four = λ j h. absurd (not-suc-le-zero h) }
+        record {
+          place = 0;
+          window = inr (eb, sym (Option·some-injective 3 k e));
+          no-three = λ j h. absurd (not-suc-le-zero h);
+          no-four = λ j h. absurd (not-suc-le-zero h);
+        }
     go false ea false eb none er ih e = absurd (none≢some e)
     go false ea false eb (some j) er ih e =
         let i = ih j er in
@@ -73,8 +86,18 @@ first-break-is (x ∷ s) k e = go (stands upTo2 (x ∷ s)) refl (badFour (x ∷ 
         record {
           place = suc (i .place);
           window = moved j (i .place) q (i .window);
-          no-three = λ n. elim n as (λ n. n < suc (i .place) → stands upTo2 (drop n (x ∷ s)) ≡ false) [ zero ↦ λ _. ea | suc n ↦ λ h. i .no-three n (le-of-suc-le-suc h) ];
-          no-four = λ n. elim n as (λ n. n < suc (i .place) → badFour (drop n (x ∷ s)) ≡ false) [ zero ↦ λ _. eb | suc n ↦ λ h. i .no-four n (le-of-suc-le-suc h) ];
+          no-three =
+              λ n. elim n as (λ n. n < suc (i .place) → stands upTo2 (drop n (x ∷ s)) ≡ false) [
+                | zero ↦ λ _. ea
+                | suc n ↦ λ h. i .no-three n
+                    (le-of-suc-le-suc h)
+              ];
+          no-four =
+              λ n. elim n as (λ n. n < suc (i .place) → badFour (drop n (x ∷ s)) ≡ false) [
+                | zero ↦ λ _. eb
+                | suc n ↦ λ h. i .no-four n
+                    (le-of-suc-le-suc h)
+              ];
         }
       where
         moved : (j p : ℕ) → suc j ≡ k → ((stands upTo2 (drop p s) ≡ true) × (j ≡ p + 2)) ⊎ ((badFour (drop p s) ≡ true) × (j ≡ p + 3))
@@ -95,9 +118,11 @@ break-stays (x ∷ y ∷ z ∷ []) t k e = go (stands upTo2 (x ∷ y ∷ z ∷ [
     go true ea e = rw ea e
     go false ea e = absurd (none≢some e)
 break-stays (x ∷ y ∷ z ∷ w ∷ s) t k e =
-    go (stands upTo2 (x ∷ y ∷ z ∷ w ∷ s)) refl (badFour (x ∷ y ∷ z ∷ w ∷ s)) refl (firstBreak (y ∷ z ∷ w ∷ s)) refl (λ j q. break-stays (y ∷ z ∷ w ∷ s) t j q) e
+    go (stands upTo2 (x ∷ y ∷ z ∷ w ∷ s)) refl (badFour (x ∷ y ∷ z ∷ w ∷ s)) refl (firstBreak (y ∷ z ∷ w ∷ s)) refl
+    (λ j q. break-stays (y ∷ z ∷ w ∷ s) t j q) e
   where
-    go : (a : Bool) → stands upTo2 (x ∷ y ∷ z ∷ w ∷ s) ≡ a → (b : Bool) → badFour (x ∷ y ∷ z ∷ w ∷ s) ≡ b → (r : Option ℕ) → firstBreak (y ∷ z ∷ w ∷ s) ≡ r
+    go : (a : Bool) → stands upTo2 (x ∷ y ∷ z ∷ w ∷ s) ≡ a → (b : Bool) → badFour (x ∷ y ∷ z ∷ w ∷ s) ≡ b → (r : Option ℕ)
+        → firstBreak (y ∷ z ∷ w ∷ s) ≡ r
         → ((j : ℕ) → firstBreak (y ∷ z ∷ w ∷ s) ≡ some j → firstBreak (y ∷ z ∷ w ∷ s ++ t) ≡ some j)
         → cond a (some 2) (cond b (some 3) (further r)) ≡ some k → firstBreak (x ∷ y ∷ z ∷ w ∷ s ++ t) ≡ some k
     go true ea b eb r er ih e = rw ea e
@@ -168,7 +193,8 @@ pub next-forbids : (h : List ℕ) (b : ℕ) (r : Option (Out ParseState)) → ne
 next-forbids h b r e = sym (refused-is (endsThree h) (trail h) b) ∙ ap refused e
 
 -- a byte that is taken breaks nothing, with the first k bytes dropped unexamined
-pub taken-unbroken : (k : ℕ) (h : List ℕ) (b : ℕ) (o : Out ParseState) → firstBreak (drop k h) ≡ none → next (readerAt k h) b ≡ some o → firstBreak (drop k (h ++ b ∷ [])) ≡ none
+pub taken-unbroken : (k : ℕ) (h : List ℕ) (b : ℕ) (o : Out ParseState) → firstBreak (drop k h) ≡ none → next (readerAt k h) b ≡ some o
+    → firstBreak (drop k (h ++ b ∷ [])) ≡ none
 taken-unbroken zero h b o n e = break-more h b n ∙ ap (λ (c : Bool). brokenBy c (length h)) (next-forbids h b (some o) e)
 taken-unbroken (suc k) [] b o n e = ap firstBreak (drop-nil k)
 taken-unbroken (suc k) (x ∷ h) b o n e = taken-unbroken k h b o n e
@@ -180,6 +206,12 @@ pub record Completes (k : ℕ) (h : List ℕ) (b : ℕ) : Type 0 where
   pub breaks : firstBreak (drop k (h ++ b ∷ [])) ≡ some place
 
 pub forbidden-breaks : (k : ℕ) (h : List ℕ) (b : ℕ) → firstBreak (drop k h) ≡ none → next (readerAt k h) b ≡ none → Completes k h b
-forbidden-breaks zero h b n e = record { place = length h; place-is = omega arith; breaks = break-more h b n ∙ ap (λ (c : Bool). brokenBy c (length h)) (next-forbids h b none e) }
+forbidden-breaks zero h b n e =
+    record {
+      place = length h;
+      place-is = omega arith;
+      breaks = break-more h b n ∙ ap (λ (c : Bool). brokenBy c (length h)) (next-forbids h b none e);
+    }
 forbidden-breaks (suc k) [] b n e = absurd (let z : _≡_ {A = ℕ} 0 1 = cc in omega arith)
-forbidden-breaks (suc k) (x ∷ h) b n e = let i = forbidden-breaks k h b n e in let q = i .place-is in record { place = i .place; place-is = omega arith; breaks = i .breaks }
+forbidden-breaks (suc k) (x ∷ h) b n e =
+    let i = forbidden-breaks k h b n e in let q = i .place-is in record { place = i .place; place-is = omega arith; breaks = i .breaks }

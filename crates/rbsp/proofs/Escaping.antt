@@ -8,12 +8,13 @@ use mathlib.Core.List.{List, [], _∷_, _++_, append-assoc}
 use mathlib.Core.Option.{Option, none, some, Option·some-injective}
 use lib.ListN.{length, take, drop, length-drop}
 use Rattle.desk.specs.Push.{Out, seen, seenAfter, Follows}
-use Rattle.desk.specs.Search.{upTo3, stands, next as further, first, trail, zerosAfter}
+use Rattle.desk.specs.Search.{upTo3, stands, next as further, first, trail}
+use Rattle.desk.specs.Zeros.{zerosAfter}
 use Rattle.desk.proofs.Choice.{ap-cond, cond-ind}
 use Rattle.desk.proofs.Lists.{snoc-ind, trail-past, trail-cons}
 use Rattle.desk.proofs.Search.{trail-more, stays}
 use Rattle.rbsp.specs.Rule.{Escapes, escape, escapeAt, escapeBy}
-use Rattle.rbsp.specs.Step.{zeros, stuffs, escapes, writes}
+use Rattle.rbsp.specs.Step.{behindThree, goesAlone, zeros, stuffs, escapes, writes}
 use Rattle.rbsp.specs.declared.writer.ByteWriter.{ByteWriter}
 
 -- the rule byte by byte: 00 00 and a byte up to 03 give 00 00 03, and the third byte begins anew
@@ -33,9 +34,11 @@ by-table zero (x ∷ s) h = absurd (not-suc-le-zero h)
 by-table (suc n) [] h = refl
 by-table (suc n) (x ∷ []) h = refl
 by-table (suc n) (x ∷ y ∷ []) h = refl
-by-table (suc n) (x ∷ y ∷ z ∷ s) h = go (stands upTo3 (x ∷ y ∷ z ∷ s)) refl (by-table n (z ∷ s) (omega arith)) (by-table (suc n) (y ∷ z ∷ s) (omega arith))
+by-table (suc n) (x ∷ y ∷ z ∷ s) h =
+    go (stands upTo3 (x ∷ y ∷ z ∷ s)) refl (by-table n (z ∷ s) (omega arith)) (by-table (suc n) (y ∷ z ∷ s) (omega arith))
   where
-    go : (c : Bool) → stands upTo3 (x ∷ y ∷ z ∷ s) ≡ c → escapeBy n (z ∷ s) ≡ table (z ∷ s) → escapeBy (suc n) (y ∷ z ∷ s) ≡ table (y ∷ z ∷ s) → escapeBy (suc n) (x ∷ y ∷ z ∷ s) ≡ table (x ∷ y ∷ z ∷ s)
+    go : (c : Bool) → stands upTo3 (x ∷ y ∷ z ∷ s) ≡ c → escapeBy n (z ∷ s) ≡ table (z ∷ s) → escapeBy (suc n) (y ∷ z ∷ s) ≡ table (y ∷ z ∷ s)
+        → escapeBy (suc n) (x ∷ y ∷ z ∷ s) ≡ table (x ∷ y ∷ z ∷ s)
     go true e i j = rw e (ap {B = List ℕ} (λ l. 0 ∷ 0 ∷ 3 ∷ l) i)
     go false e i j = rw e (at-next x (y ∷ z ∷ s) (escapeBy n) (first upTo3 (y ∷ z ∷ s)) ∙ ap {B = List ℕ} (λ l. x ∷ l) j)
 
@@ -60,7 +63,8 @@ escape-some (x ∷ s) i e =
     let q = stays upTo3 (x ∷ s) [] i e in
     let t = drop 2 (drop i (x ∷ s)) in
     ap (escapeAt (x ∷ s) (escapeBy (length s))) e
-    ∙ ap (λ (l : List ℕ). take i (x ∷ s) ++ 0 ∷ 0 ∷ 3 ∷ l) (by-table (length s) t (omega (arith, q .less, length-drop 2 (drop i (x ∷ s)))) ∙ sym (by-table (length t) t (omega arith)))
+    ∙ ap (λ (l : List ℕ). take i (x ∷ s) ++ 0 ∷ 0 ∷ 3 ∷ l)
+    (by-table (length s) t (omega (arith, q .less, length-drop 2 (drop i (x ∷ s)))) ∙ sym (by-table (length t) t (omega arith)))
 
 -- `escape s` IS WHAT THE TWO SENTENCES SAY OF s, and nothing else is
 pub escapes-one : {s t : List ℕ} → Escapes s t → t ≡ escape s
@@ -78,7 +82,8 @@ escape-is s = by-places (length s) s (omega arith)
       where
         go : (r : Option ℕ) → first upTo3 s ≡ r → ((l : List ℕ) → length l ≤ n → Escapes l (escapeBy n l)) → Escapes s (escapeAt s (escapeBy n) r)
         go none e ih = Escapes.nowhere e
-        go (some i) e ih = let q = stays upTo3 s [] i e in Escapes.at-place e (ih (drop 2 (drop i s)) (omega (arith, q .shorter, q .less, length-drop 2 (drop i s))))
+        go (some i) e ih =
+            let q = stays upTo3 s [] i e in Escapes.at-place e (ih (drop 2 (drop i s)) (omega (arith, q .shorter, q .less, length-drop 2 (drop i s))))
 
 -- what a byte releases, behind z zeros
 abbrev pub let-out : ℕ → ℕ → List ℕ
@@ -88,7 +93,8 @@ table-long : (y z : ℕ) (s : List ℕ) → 2 ≤ length (table (y ∷ z ∷ s))
 table-long y z [] = omega arith
 table-long y z (w ∷ s) =
     let i = table-long z w s in
-    cond-ind (λ (l : List ℕ). 2 ≤ length l) (stands upTo3 (y ∷ z ∷ w ∷ s)) (0 ∷ 0 ∷ 3 ∷ table (w ∷ s)) (y ∷ table (z ∷ w ∷ s)) (omega arith) (omega arith)
+    cond-ind (λ (l : List ℕ). 2 ≤ length l) (stands upTo3 (y ∷ z ∷ w ∷ s)) (0 ∷ 0 ∷ 3 ∷ table (w ∷ s)) (y ∷ table (z ∷ w ∷ s)) (omega arith)
+    (omega arith)
 
 table-more : (h : List ℕ) (b : ℕ) → table (h ++ b ∷ []) ≡ table h ++ let-out (trail (table h)) b
 table-more [] b = refl
@@ -100,7 +106,8 @@ table-more (suc x ∷ zero ∷ []) b = refl
 table-more (suc x ∷ suc y ∷ []) b = refl
 table-more (x ∷ y ∷ z ∷ s) b = go (stands upTo3 (x ∷ y ∷ z ∷ s)) refl (table-more (z ∷ s) b) (table-more (y ∷ z ∷ s) b)
   where
-    go : (c : Bool) → stands upTo3 (x ∷ y ∷ z ∷ s) ≡ c → table (z ∷ s ++ b ∷ []) ≡ table (z ∷ s) ++ let-out (trail (table (z ∷ s))) b → table (y ∷ z ∷ s ++ b ∷ []) ≡ table (y ∷ z ∷ s) ++ let-out (trail (table (y ∷ z ∷ s))) b
+    go : (c : Bool) → stands upTo3 (x ∷ y ∷ z ∷ s) ≡ c → table (z ∷ s ++ b ∷ []) ≡ table (z ∷ s) ++ let-out (trail (table (z ∷ s))) b
+        → table (y ∷ z ∷ s ++ b ∷ []) ≡ table (y ∷ z ∷ s) ++ let-out (trail (table (y ∷ z ∷ s))) b
         → table (x ∷ y ∷ z ∷ s ++ b ∷ []) ≡ table (x ∷ y ∷ z ∷ s) ++ let-out (trail (table (x ∷ y ∷ z ∷ s))) b
     go true e i j =
         let t : trail (table (z ∷ s)) ≡ trail (0 ∷ 0 ∷ 3 ∷ table (z ∷ s)) = sym (trail-past 0 3 (table (z ∷ s)) refl) in
@@ -116,7 +123,7 @@ escape-more h b = escape-table (h ++ b ∷ []) ∙ table-more h b ∙ ap (λ (l 
 -- ---- the step gives the rule
 
 out-of : (z b : ℕ) (c : Bool) (o : Out ByteWriter) → stuffs z b ≡ c
-    → cond c (some (record { after = zeros (zerosAfter 0 b); bytes = 3 ∷ b ∷ []; mark = false })) (some (record { after = zeros (zerosAfter z b); bytes = b ∷ []; mark = false })) ≡ some o
+    → cond c (some (behindThree b)) (some (goesAlone z b)) ≡ some o
     → record { after = zeros (cond c (zerosAfter 0 b) (zerosAfter z b)); bytes = cond c (3 ∷ b ∷ []) (b ∷ []); mark = false } ≡ o
 out-of z b true o e q = Option·some-injective _ o q
 out-of z b false o e q = Option·some-injective _ o q
@@ -127,7 +134,10 @@ trail-out g b false = trail-more g b
 
 -- what does not end in 00 does not when it is escaped
 pub escape-trail : (s : List ℕ) → trail s ≡ 0 → trail (escape s) ≡ 0
-escape-trail = snoc-ind (λ (s : List ℕ). trail s ≡ 0 → trail (escape s) ≡ 0) (λ e. ap trail escape-nil) (λ h b ih e. ap trail (escape-more h b) ∙ trail-out (escape h) b (stuffs (trail (escape h)) b) ∙ none-left b (trail h) (sym (trail-more h b) ∙ e) (stuffs (trail (escape h)) b) (trail (escape h)))
+escape-trail =
+    snoc-ind (λ (s : List ℕ). trail s ≡ 0 → trail (escape s) ≡ 0) (λ e. ap trail escape-nil)
+    (λ h b ih e. ap trail (escape-more h b) ∙ trail-out (escape h) b (stuffs (trail (escape h)) b)
+    ∙ none-left b (trail h) (sym (trail-more h b) ∙ e) (stuffs (trail (escape h)) b) (trail (escape h)))
   where
     none-left : (b z : ℕ) → zerosAfter z b ≡ 0 → (c : Bool) (y : ℕ) → cond c (zerosAfter 0 b) (zerosAfter y b) ≡ 0
     none-left (suc b) z e true y = refl

@@ -39,27 +39,38 @@ pub record Broken (k : ℕ) (h : List ℕ) (s : List ℕ) : Type 0 where
   pub place-is : length h ≡ k + place
   pub breaks : firstBreak (drop k s) ≡ some place
 
-pub forbidden-broken : (k : ℕ) (h : List ℕ) (b : ℕ) (t : List ℕ) → firstBreak (drop k h) ≡ none → next (readerAt k h) b ≡ none → Broken k h (h ++ b ∷ t)
+pub forbidden-broken : (k : ℕ) (h : List ℕ) (b : ℕ) (t : List ℕ) → firstBreak (drop k h) ≡ none → next (readerAt k h) b ≡ none
+    → Broken k h (h ++ b ∷ t)
 forbidden-broken k h b t n q =
     let c = forbidden-breaks k h b n q in
     let p = c .place-is in
     let long : k ≤ length (h ++ b ∷ []) = simp length-append (omega arith) in
-    record { place = c .place; place-is = p; breaks = ap (λ (l : List ℕ). firstBreak (drop k l)) (sym (append-snoc h b t)) ∙ ap firstBreak (drop-append-le k (h ++ b ∷ []) t long) ∙ break-stays (drop k (h ++ b ∷ [])) t (c .place) (c .breaks) }
+    record {
+      place = c .place;
+      place-is = p;
+      breaks =
+          ap (λ (l : List ℕ). firstBreak (drop k l)) (sym (append-snoc h b t)) ∙ ap firstBreak (drop-append-le k (h ++ b ∷ []) t long)
+          ∙ break-stays (drop k (h ++ b ∷ [])) t (c .place) (c .breaks);
+    }
 
 pub unbroken-accepts : (k : ℕ) (h t : List ℕ) → firstBreak (drop k (h ++ t)) ≡ none → accepts next (readerAt k h) t ≡ true
 unbroken-accepts k h [] e = refl
-unbroken-accepts k h (b ∷ t) e = go (next (readerAt k h) b) refl (unbroken-accepts k (h ++ b ∷ []) t (ap (λ (l : List ℕ). firstBreak (drop k l)) (append-snoc h b t) ∙ e))
+unbroken-accepts k h (b ∷ t) e =
+    go (next (readerAt k h) b) refl (unbroken-accepts k (h ++ b ∷ []) t (ap (λ (l : List ℕ). firstBreak (drop k l)) (append-snoc h b t) ∙ e))
   where
-    go : (r : Option (Out ParseState)) → next (readerAt k h) b ≡ r → accepts next (readerAt k (h ++ b ∷ [])) t ≡ true → acceptsBy r (λ o. accepts next (o .after) t) ≡ true
+    go : (r : Option (Out ParseState)) → next (readerAt k h) b ≡ r → accepts next (readerAt k (h ++ b ∷ [])) t ≡ true
+        → acceptsBy r (λ o. accepts next (o .after) t) ≡ true
     go none q i = absurd (none≢some (sym e ∙ forbidden-broken k h b t (front-unbroken k h (b ∷ t) e) q .breaks))
     go (some o) q i = ap (λ (s : ParseState). accepts next s t) (sym (state-more k h b o q)) ∙ i
 
-pub accepts-unbroken : (k : ℕ) (h t : List ℕ) → firstBreak (drop k h) ≡ none → accepts next (readerAt k h) t ≡ true → firstBreak (drop k (h ++ t)) ≡ none
+pub accepts-unbroken : (k : ℕ) (h t : List ℕ) → firstBreak (drop k h) ≡ none → accepts next (readerAt k h) t ≡ true
+    → firstBreak (drop k (h ++ t)) ≡ none
 accepts-unbroken k h [] n e = ap (λ (l : List ℕ). firstBreak (drop k l)) (append-nil h) ∙ n
 accepts-unbroken k h (b ∷ t) n e = go (next (readerAt k h) b) refl e (λ m a. accepts-unbroken k (h ++ b ∷ []) t m a)
   where
     go : (r : Option (Out ParseState)) → next (readerAt k h) b ≡ r → acceptsBy r (λ o. accepts next (o .after) t) ≡ true
-        → (firstBreak (drop k (h ++ b ∷ [])) ≡ none → accepts next (readerAt k (h ++ b ∷ [])) t ≡ true → firstBreak (drop k ((h ++ b ∷ []) ++ t)) ≡ none) → firstBreak (drop k (h ++ b ∷ t)) ≡ none
+        → (firstBreak (drop k (h ++ b ∷ [])) ≡ none → accepts next (readerAt k (h ++ b ∷ [])) t ≡ true
+        → firstBreak (drop k ((h ++ b ∷ []) ++ t)) ≡ none) → firstBreak (drop k (h ++ b ∷ t)) ≡ none
     go none q a ih = absurd (false≢true a)
     go (some o) q a ih =
         ap (λ (l : List ℕ). firstBreak (drop k l)) (sym (append-snoc h b t))

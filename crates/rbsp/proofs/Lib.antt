@@ -8,6 +8,7 @@ pub mod Pushing
 pub mod Reach
 pub mod Rooms
 pub mod Sheets
+pub mod Showing
 pub mod Stepping
 pub mod Traces
 pub mod Unescaping

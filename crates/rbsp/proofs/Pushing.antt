@@ -8,7 +8,7 @@ use mathlib.Core.Option.{Option, none, some, Option·some-injective}
 use lib.ListN.{length, getD, replicate, length-replicate}
 use borrow.Rule.Slice.PartMut.{midOf, putMid}
 use Rattle.desk.specs.Numbers.{entryOf}
-use Rattle.desk.specs.Push.{Out, Next, pushOf, Gives}
+use Rattle.desk.specs.Push.{Out, Next, answers, run, pushOf, Gives}
 use Rattle.desk.specs.Room.{written}
 use Rattle.desk.proofs.Pushing.{Going, going-more, stop-full, gives-refused, wrote, wrote-none, sofar}
 use Rattle.rbsp.specs.Step.{takes, next, stepped, released}
@@ -18,26 +18,33 @@ use Rattle.rbsp.specs.declared.reader.Stepped.{Stepped}
 use Rattle.rbsp.specs.declared.reader.Stepped.the-variants.{Take, Forbidden}
 
 -- a refusal of the entry checks, by the number that the code found
-pub refused : {S : Type 0} (nx : Next S) (n entry : ℕ) (s : S) (chunk out : List ℕ) → n ≡ entry → (n ≡ 0 → ⊥) → Gives (pushOf nx entry s chunk (length out) 0) out [] out [] n 0 0 0 s
-refused nx n entry s chunk out e h = subst (λ (k : ℕ). Gives (pushOf nx entry s chunk (length out) 0) out [] out [] k 0 0 0 s) (sym e) (gives-refused nx entry s chunk out [] (λ z. h (e ∙ z)))
+pub refused : {S : Type 0} (nx : Next S) (n entry : ℕ) (s : S) (chunk out : List ℕ) → n ≡ entry → (n ≡ 0 → ⊥)
+    → Gives (pushOf nx entry s chunk (length out) 0) out [] out [] n 0 0 0 s
+refused nx n entry s chunk out e h =
+    subst (λ (k : ℕ). Gives (pushOf nx entry s chunk (length out) 0) out [] out [] k 0 0 0 s) (sym e)
+    (gives-refused nx entry s chunk out [] (λ z. h (e ∙ z)))
 
 pub entry-is : (n : ℕ) (bad bad′ : Bool) (ns : List ℕ) → n ≡ entryOf ns bad → bad ≡ bad′ → n ≡ entryOf ns bad′
 entry-is n bad bad′ ns p q = p ∙ ap (entryOf ns) q
 
 -- one byte of a push that releases the bytes bs of the code's step, without marks
-module _ {S : Type 0} {nx : Next S} {chunk out₀ : List ℕ} {s₀ : S} {out : List ℕ} {s : S} {t w : ℕ} (g : Going nx chunk out₀ [] s₀ out [] s t w 0) {b : ℕ} (h : t < length chunk) (e : b ≡ getD chunk t 0) (after : S) (bs : List ℕ)
+module _ {S : Type 0} {nx : Next S} {chunk out₀ : List ℕ} {s₀ : S} {out : List ℕ} {s : S} {t w : ℕ} (g : Going nx chunk out₀ [] s₀ out [] s t w 0)
+    {b : ℕ} (h : t < length chunk) (e : b ≡ getD chunk t 0) (after : S) (bs : List ℕ)
     (q : nx s b ≡ some (record { after = after; bytes = bs; mark = false }))
     (n : ℕ)
     (en : length bs ≡ n)
   where
-    pub more : (part : List ℕ) → n ≤ length out - w → part ≡ written (midOf w (length out - w) out) bs → Going nx chunk out₀ [] s₀ (putMid w (length out - w) out part) [] after (t + 1) (w + n) 0
-    more part f ep = going-more g h e (record { after = after; bytes = bs; mark = false }) q n 0 en refl (wrote w n bs out part (g .out-few) f en ep) wrote-none
+    pub more : (part : List ℕ) → n ≤ length out - w → part ≡ written (midOf w (length out - w) out) bs
+        → Going nx chunk out₀ [] s₀ (putMid w (length out - w) out part) [] after (t + 1) (w + n) 0
+    more part f ep =
+        going-more g h e (record { after = after; bytes = bs; mark = false }) q n 0 en refl (wrote w n bs out part (g .out-few) f en ep) wrote-none
 
-    pub full : length out - w < n → Rattle.desk.specs.Push.run nx (length out₀) 0 (Rattle.desk.specs.Push.answers 0 s₀) chunk ≡ sofar out [] s t w 0
+    pub full : length out - w < n → run nx (length out₀) 0 (answers 0 s₀) chunk ≡ sofar out [] s t w 0
     full f = stop-full g h e (record { after = after; bytes = bs; mark = false }) q n 0 en refl f
 
 -- the reader's step took the byte, or forbids it
-pub took-is : (r : Stepped) (s : ParseState) (b : ℕ) (after : ParseState) (n : ℕ) → stepped r b ≡ next s b → r ≡ Take after n → next s b ≡ some (takes after (replicate n b))
+pub took-is : (r : Stepped) (s : ParseState) (b : ℕ) (after : ParseState) (n : ℕ) → stepped r b ≡ next s b → r ≡ Take after n
+    → next s b ≡ some (takes after (replicate n b))
 took-is r s b after n e q = sym e ∙ ap (λ (x : Stepped). stepped x b) q
 
 pub forbids-is : (r : Stepped) (s : ParseState) (b : ℕ) → stepped r b ≡ next s b → r ≡ Forbidden → next s b ≡ none

@@ -64,7 +64,9 @@ reached =
 
 -- a chunk or a NAL that is too long answers 1 too, whatever the state is
 pub chunk-1 : (s : ParseState) (chunk : List ℕ) (w : ℕ) → most < length chunk → reader s chunk w ≡ answers 1 s
-chunk-1 s chunk w h = ap (λ (e : ℕ). pushOf next e s chunk w 0) (entry-long (length chunk ∷ w ∷ 0 ∷ []) (badState s) (rw (lt-ltb most (length chunk) h))) ∙ push-refused next 1 s chunk w 0 (λ e. let x : ⊥ = omega arith in x)
+chunk-1 s chunk w h =
+    ap (λ (e : ℕ). pushOf next e s chunk w 0) (entry-long (length chunk ∷ w ∷ 0 ∷ []) (badState s) (rw (lt-ltb most (length chunk) h)))
+    ∙ push-refused next 1 s chunk w 0 (λ e. let x : ⊥ = omega arith in x)
 
 pub nal-1 : (nal : List ℕ) (w : ℕ) → most < length nal → decodeOf nal w ≡ refuses 1
 unfolding decodeOf

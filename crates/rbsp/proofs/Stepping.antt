@@ -5,7 +5,7 @@ use mathlib.Core.Path.{_≡_, refl, ap, _∙_}
 use mathlib.Core.Bool.{Bool, true, false, _&&_}
 use mathlib.Core.List.{[]}
 use mathlib.Core.Option.{some}
-use Rattle.desk.specs.Search.{two, zerosAfter}
+use Rattle.desk.specs.Zeros.{two, zerosAfter}
 use Rattle.desk.proofs.Bytes.{not-0, up-to-3, above-3, is-two, not-two}
 use Rattle.rbsp.specs.declared.reader.ParseState.{ParseState}
 use Rattle.rbsp.specs.declared.reader.ParseState.the-variants.{Skip}
@@ -21,7 +21,8 @@ next-skip (suc k) b {s} h e = let q : suc k - 1 ≡ k = omega arith in ap (λ (x
 
 -- a byte above 03 resets the count
 pub does-other : (z b : ℕ) → 3 < b → Does z b (record { after = zeros 0; count = 1 })
-does-other z b h = record { next-is = simp (above-3 b h, and-no (two z), not-0 b (λ e. let x : ⊥ = omega arith in x)); least = omega arith; most-two = omega arith }
+does-other z b h =
+    record { next-is = simp (above-3 b h, and-no (two z), not-0 b (λ e. let x : ⊥ = omega arith in x)); least = omega arith; most-two = omega arith }
   where
     and-no : (c : Bool) → (c && false) ≡ false
     and-no true = refl

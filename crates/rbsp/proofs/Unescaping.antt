@@ -9,7 +9,8 @@ use mathlib.Core.Option.{Option, none, some, Option·some-injective}
 use lib.ListN.{length, take, drop}
 use lib.Seq.{drop-nil}
 use Rattle.desk.specs.Push.{Out, seen, seenAfter, Follows}
-use Rattle.desk.specs.Search.{is0, is3, stands, next as further, first, trail, two, zerosAfter}
+use Rattle.desk.specs.Search.{is0, is3, stands, next as further, first, trail}
+use Rattle.desk.specs.Zeros.{two, zerosAfter}
 use Rattle.desk.proofs.Choice.{ap-cond, and-right}
 use Rattle.desk.proofs.Lists.{trail-past}
 use Rattle.desk.proofs.Search.{trail-more, stays}
@@ -37,7 +38,8 @@ by-table (suc n) (x ∷ []) h = refl
 by-table (suc n) (x ∷ y ∷ []) h = refl
 by-table (suc n) (x ∷ y ∷ z ∷ s) h = go (stands is3 (x ∷ y ∷ z ∷ s)) refl (by-table n s (omega arith)) (by-table (suc n) (y ∷ z ∷ s) (omega arith))
   where
-    go : (c : Bool) → stands is3 (x ∷ y ∷ z ∷ s) ≡ c → unescapeBy n s ≡ table s → unescapeBy (suc n) (y ∷ z ∷ s) ≡ table (y ∷ z ∷ s) → unescapeBy (suc n) (x ∷ y ∷ z ∷ s) ≡ table (x ∷ y ∷ z ∷ s)
+    go : (c : Bool) → stands is3 (x ∷ y ∷ z ∷ s) ≡ c → unescapeBy n s ≡ table s → unescapeBy (suc n) (y ∷ z ∷ s) ≡ table (y ∷ z ∷ s)
+        → unescapeBy (suc n) (x ∷ y ∷ z ∷ s) ≡ table (x ∷ y ∷ z ∷ s)
     go true e i j = rw e (ap {B = List ℕ} (λ l. 0 ∷ 0 ∷ l) i)
     go false e i j = rw e (at-next x (y ∷ z ∷ s) (unescapeBy n) (first is3 (y ∷ z ∷ s)) ∙ ap {B = List ℕ} (λ l. x ∷ l) j)
 
@@ -74,7 +76,8 @@ unescape-is s = by-places (length s) s (omega arith)
     by-places zero (x ∷ s) h = absurd (not-suc-le-zero h)
     by-places (suc n) s h = go (first is3 s) refl (λ l k. by-places n l k)
       where
-        go : (r : Option ℕ) → first is3 s ≡ r → ((l : List ℕ) → length l ≤ n → Unescapes l (unescapeBy n l)) → Unescapes s (unescapeAt s (unescapeBy n) r)
+        go : (r : Option ℕ) → first is3 s ≡ r → ((l : List ℕ) → length l ≤ n → Unescapes l (unescapeBy n l))
+            → Unescapes s (unescapeAt s (unescapeBy n) r)
         go none e ih = Unescapes.nowhere e
         go (some i) e ih = let q = stays is3 s [] i e in Unescapes.at-place e (ih (drop 3 (drop i s)) (omega (arith, q .shorter)))
 
@@ -96,10 +99,12 @@ table-more (suc x ∷ zero ∷ []) b = refl
 table-more (suc x ∷ suc y ∷ []) b = refl
 table-more (x ∷ y ∷ z ∷ s) b = go (stands is3 (x ∷ y ∷ z ∷ s)) refl (table-more s b) (table-more (y ∷ z ∷ s) b)
   where
-    go : (c : Bool) → stands is3 (x ∷ y ∷ z ∷ s) ≡ c → table (s ++ b ∷ []) ≡ table s ++ kept (trail s) b → table (y ∷ z ∷ s ++ b ∷ []) ≡ table (y ∷ z ∷ s) ++ kept (trail (y ∷ z ∷ s)) b
+    go : (c : Bool) → stands is3 (x ∷ y ∷ z ∷ s) ≡ c → table (s ++ b ∷ []) ≡ table s ++ kept (trail s) b
+        → table (y ∷ z ∷ s ++ b ∷ []) ≡ table (y ∷ z ∷ s) ++ kept (trail (y ∷ z ∷ s)) b
         → table (x ∷ y ∷ z ∷ s ++ b ∷ []) ≡ table (x ∷ y ∷ z ∷ s) ++ kept (trail (y ∷ z ∷ s)) b
     go true e i j =
-        let t : trail s ≡ trail (y ∷ z ∷ s) = sym (trail-past y z s (is3-not-0 z (and-right (is0 y) (is3 z) (and-right (is0 x) (is0 y && is3 z) e)))) in
+        let t : trail s ≡ trail (y ∷ z ∷ s) =
+        sym (trail-past y z s (is3-not-0 z (and-right (is0 y) (is3 z) (and-right (is0 x) (is0 y && is3 z) e)))) in
         rw e (ap {B = List ℕ} (λ l. 0 ∷ 0 ∷ l) (i ∙ ap (λ (n : ℕ). table s ++ kept n b) t))
     go false e i j = rw e (ap {B = List ℕ} (λ l. x ∷ l) j)
 

@@ -14,12 +14,14 @@ use Rattle.rbsp.specs.declared.reader.Pushed.{Pushed}
 use Rattle.rbsp.specs.declared.writer.ByteWriter.{ByteWriter}
 use Rattle.rbsp.specs.declared.writer.Written.{Written}
 
-pub read-push-one : (s : ParseState) (chunk out out₁ out₂ : List ℕ) (r₁ r₂ : Pushed) → ReadPush s chunk out out₁ r₁ → ReadPush s chunk out out₂ r₂ → (r₁ ≡ r₂) × (out₁ ≡ out₂)
+pub read-push-one : (s : ParseState) (chunk out out₁ out₂ : List ℕ) (r₁ r₂ : Pushed) → ReadPush s chunk out out₁ r₁ → ReadPush s chunk out out₂ r₂
+    → (r₁ ≡ r₂) × (out₁ ≡ out₂)
 read-push-one s chunk out out₁ out₂ r₁ r₂ p q =
     let e = one-outcome p q in
     (λ i. record { number = e .number i; taken = e .taken i; written = e .wrote i; state = record { state = e .state i } }, e .out)
 
-pub write-push-one : (s : ByteWriter) (chunk out out₁ out₂ : List ℕ) (r₁ r₂ : Written) → WritePush s chunk out out₁ r₁ → WritePush s chunk out out₂ r₂ → (r₁ ≡ r₂) × (out₁ ≡ out₂)
+pub write-push-one : (s : ByteWriter) (chunk out out₁ out₂ : List ℕ) (r₁ r₂ : Written) → WritePush s chunk out out₁ r₁
+    → WritePush s chunk out out₂ r₂ → (r₁ ≡ r₂) × (out₁ ≡ out₂)
 write-push-one s chunk out out₁ out₂ r₁ r₂ p q =
     let e = one-outcome p q in
     (λ i. record { number = e .number i; taken = e .taken i; written = e .wrote i; state = e .state i }, e .out)
@@ -37,7 +39,8 @@ back-of Empty = refl
 back-of (Forbidden i) = refl
 back-of NoRoom = refl
 
-pub decode-one : (nal room room₁ room₂ : List ℕ) (r₁ r₂ : Decoded) → Decodes nal room room₁ r₁ → Decodes nal room room₂ r₂ → (r₁ ≡ r₂) × (room₁ ≡ room₂)
+pub decode-one : (nal room room₁ room₂ : List ℕ) (r₁ r₂ : Decoded) → Decodes nal room room₁ r₁ → Decodes nal room room₂ r₂
+    → (r₁ ≡ r₂) × (room₁ ≡ room₂)
 decode-one nal room room₁ room₂ r₁ r₂ p q = (
   sym (back-of r₁) ∙ (λ i. back ((p .number-is ∙ sym (q .number-is)) i) ((p .value-is ∙ sym (q .value-is)) i)) ∙ back-of r₂,
   p .room-is ∙ sym (q .room-is),

@@ -1,4 +1,4 @@
--- WHAT EACH CALL ANSWERS, refusals included, and the one record that is its contract. Assumes nothing: these are definitions.
+-- WHAT EACH CALL ANSWERS, refusals included, and the one record that is its contract.
 use Prim.Native.Nat.{ℕ, suc, _≤_, _<_}
 use mathlib.Core.Path.{_≡_}
 use mathlib.Core.Bool.{cond}
@@ -7,7 +7,7 @@ use mathlib.Core.Option.{Option, none, some}
 use lib.ListN.{length, take, drop}
 use lib.Dec.{ltb}
 use Rattle.desk.specs.Numbers.{most, done, tooLong, forbiddenByte, emptyNal, noRoom, anyOver}
-use Rattle.desk.specs.Push.{pushOf, Gives}
+use Rattle.desk.specs.Push.{Answer, pushBy, Gives}
 use Rattle.desk.specs.Room.{written}
 use Rattle.desk.specs.Search.{is3, first}
 use Rattle.rbsp.specs.Rule.{unescape, firstBreak}
@@ -23,18 +23,27 @@ use Rattle.rbsp.specs.declared.nal.Surveyed.the-variants.{Kept, Forbidde
 
 -- ---- the pushes: no marks are written, so none are lent
 
+-- an outcome is the answer: what is returned, and all of the room at exit
+abbrev pub ReadGave : Answer ParseState → List ℕ → List ℕ → Pushed → Type 0
+ReadGave a out out′ r = Gives a out [] out′ [] (r .number) (r .taken) (r .written) 0 (r .state .state)
+
+abbrev pub WriteGave : Answer ByteWriter → List ℕ → List ℕ → Written → Type 0
+WriteGave a out out′ r = Gives a out [] out′ [] (r .number) (r .taken) (r .written) 0 (r .state)
+
+-- THE CONTRACTS
 abbrev pub ReadPush : ParseState → List ℕ → List ℕ → List ℕ → Pushed → Type 0
-ReadPush s chunk out out′ r = Gives (pushOf next (readEntry s (length chunk) (length out) 0) s chunk (length out) 0) out [] out′ [] (r .number) (r .taken) (r .written) 0 (r .state .state)
+ReadPush s chunk out out′ r = ReadGave (pushBy next readEntry s chunk (length out) 0) out out′ r
 
 abbrev pub WritePush : ByteWriter → List ℕ → List ℕ → List ℕ → Written → Type 0
-WritePush s chunk out out′ r = Gives (pushOf escapes (writeEntry s (length chunk) (length out) 0) s chunk (length out) 0) out [] out′ [] (r .number) (r .taken) (r .written) 0 (r .state)
+WritePush s chunk out out′ r = WriteGave (pushBy escapes writeEntry s chunk (length out) 0) out out′ r
 
 abbrev pub newWriter : ByteWriter
 newWriter = zeros 0
 
 -- ---- a whole NAL
 
--- the number, what goes with it (the index of the forbidden byte, or the count of bytes that the room was filled with), and the bytes that are written
+-- the number, what goes with it (the index of the forbidden byte, or the count of bytes that the room was filled with), and the bytes that are
+-- written
 pub record Decoding : Type 0 where
   pub number : ℕ
   pub value : Option ℕ
@@ -43,11 +52,14 @@ pub record Decoding : Type 0 where
 abbrev pub refuses : ℕ → Decoding
 refuses n = record { number = n; value = none; bytes = [] }
 
+-- what was kept of the tail fills the front of the room
+abbrev pub fills : List ℕ → Decoding
+fills tail = record { number = done; value = some (length (unescape tail)); bytes = unescape tail }
+
 -- a tail that holds no forbidden byte, for a room of w bytes: its own where nothing was removed, else it fills the front of the room
 abbrev pub decodeKept : ℕ → List ℕ → Option ℕ → Decoding
 decodeKept w tail none = record { number = done; value = none; bytes = [] }
-decodeKept w tail (some i) =
-    cond (ltb w (length (unescape tail))) (refuses noRoom) (record { number = done; value = some (length (unescape tail)); bytes = unescape tail })
+decodeKept w tail (some i) = cond (ltb w (length (unescape tail))) (refuses noRoom) (fills tail)
 
 -- by the first break of the tail; the header is byte 0 of the NAL
 abbrev pub decodeTail : ℕ → List ℕ → Option ℕ → Decoding

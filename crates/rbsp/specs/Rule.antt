@@ -1,5 +1,5 @@
 -- THE ESCAPING RULES, over whole lists of bytes, by the places where 00 00 and a third byte stand (Rec 7.3.1, 7.4.1).
--- Nothing here knows of a reader's or a writer's step. Assumes nothing: these are definitions.
+-- Nothing here knows of a reader's or a writer's step.
 use Prim.Native.Nat.{ℕ, zero, suc}
 use mathlib.Core.Path.{_≡_}
 use mathlib.Core.Bool.{Bool, false, cond, not, _&&_}
@@ -8,8 +8,8 @@ use mathlib.Core.Option.{Option, none, some}
 use lib.ListN.{length, take, drop}
 use Rattle.desk.specs.Search.{is3, upTo2, upTo3, stands, next, first}
 
--- ---- WRITING (Rec 7.4.1), two sentences: `Escapes s t` says that the RBSP s is written as t. Where 00 00 and a byte 00 to 03 stand nowhere, it is written as
--- it is; where they first stand at place i, 03 goes between, and the search goes on from the byte behind the 03, with nothing remembered.
+-- ---- WRITING (Rec 7.4.1), two sentences: `Escapes s t` says that the RBSP s is written as t. Where 00 00 and a byte 00 to 03 stand nowhere, it is
+-- written as it is; where they first stand at place i, 03 goes between, and the search goes on from the byte behind the 03, with nothing remembered.
 pub data Escapes : List ℕ → List ℕ → Type 0 where
   nowhere : {s : List ℕ} → first upTo3 s ≡ none → Escapes s s
   at-place : {s t : List ℕ} {i : ℕ} → first upTo3 s ≡ some i → Escapes (drop 2 (drop i s)) t → Escapes s (take i s ++ 0 ∷ 0 ∷ 3 ∷ t)
@@ -27,8 +27,8 @@ escapeBy (suc n) s = escapeAt s (escapeBy n) (first upTo3 s)
 unfoldable pub escape : List ℕ → List ℕ
 escape s = escapeBy (length s) s
 
--- ---- READING (Rec 7.3.1), two sentences: where 00 00 03 stands nowhere, the bytes are the RBSP; where it first stands at place i, 00 00 is kept and 03
--- dropped, and the search goes on behind the 03.
+-- ---- READING (Rec 7.3.1), two sentences: where 00 00 03 stands nowhere, the bytes are the RBSP; where it first stands at place i, 00 00 is kept
+-- and 03 dropped, and the search goes on behind the 03.
 pub data Unescapes : List ℕ → List ℕ → Type 0 where
   nowhere : {s : List ℕ} → first is3 s ≡ none → Unescapes s s
   at-place : {s t : List ℕ} {i : ℕ} → first is3 s ≡ some i → Unescapes (drop 3 (drop i s)) t → Unescapes s (take i s ++ 0 ∷ 0 ∷ t)

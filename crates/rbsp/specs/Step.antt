@@ -1,4 +1,4 @@
--- What one byte does, and the state after any bytes. Assumes nothing: these are definitions.
+-- What one byte does, and the state after any bytes.
 use Prim.Native.Nat.{ℕ, zero, suc, _≤_}
 use mathlib.Core.Path.{_≡_}
 use mathlib.Core.Bool.{Bool, false, cond, _&&_}
@@ -8,7 +8,8 @@ use lib.ListN.{drop, replicate}
 use lib.Dec.{ltb}
 use Rattle.desk.specs.Numbers.{entryOf}
 use Rattle.desk.specs.Push.{Out, Next, Seen, seen}
-use Rattle.desk.specs.Search.{is3, upTo2, upTo3, two, trail, zerosAfter}
+use Rattle.desk.specs.Search.{is3, upTo2, upTo3, trail}
+use Rattle.desk.specs.Zeros.{two, zerosAfter}
 use Rattle.rbsp.specs.Rule.{escape, unescape, endsThree}
 use Rattle.rbsp.specs.declared.reader.ParseState.{ParseState}
 use Rattle.rbsp.specs.declared.reader.ParseState.the-variants.{Start, Skip, PostThree}
@@ -24,7 +25,9 @@ takes s l = record { after = s; bytes = l; mark = false }
 
 -- behind z zeros: after two of them 03 is removed, and 00, 01 and 02 are forbidden
 abbrev pub scan : ℕ → ℕ → Option (Out ParseState)
-scan z b = cond (two z) (cond (is3 b) (some (takes PostThree [])) (cond (upTo2 b) none (some (takes (Start 0) (b ∷ []))))) (some (takes (Start (zerosAfter z b)) (b ∷ [])))
+scan z b =
+    cond (two z) (cond (is3 b) (some (takes PostThree [])) (cond (upTo2 b) none (some (takes (Start 0) (b ∷ [])))))
+    (some (takes (Start (zerosAfter z b)) (b ∷ [])))
 
 -- the state with so many bytes yet to drop: none left is a start
 abbrev pub skipping : ℕ → ParseState
@@ -71,11 +74,15 @@ zeros z = record { «zero_count» = z }
 abbrev pub stuffs : ℕ → ℕ → Bool
 stuffs z b = two z && upTo3 b
 
+-- the byte goes out behind a 03; or alone, behind z zeros
+abbrev pub behindThree : ℕ → Out ByteWriter
+behindThree b = record { after = zeros (zerosAfter 0 b); bytes = 3 ∷ b ∷ []; mark = false }
+
+abbrev pub goesAlone : ℕ → ℕ → Out ByteWriter
+goesAlone z b = record { after = zeros (zerosAfter z b); bytes = b ∷ []; mark = false }
+
 abbrev pub escapes : Next ByteWriter
-escapes s b =
-    cond (stuffs (s .«zero_count») b)
-    (some (record { after = zeros (zerosAfter 0 b); bytes = 3 ∷ b ∷ []; mark = false }))
-    (some (record { after = zeros (zerosAfter (s .«zero_count») b); bytes = b ∷ []; mark = false }))
+escapes s b = cond (stuffs (s .«zero_count») b) (some (behindThree b)) (some (goesAlone (s .«zero_count») b))
 
 -- what the code's step says: the byte alone, or behind a 03
 abbrev pub released : ℕ → ℕ → List ℕ

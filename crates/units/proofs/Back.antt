@@ -1,28 +1,29 @@
 -- What is written behind start codes comes back unit for unit.
-use Prim.Native.Nat.{ℕ, zero, suc, _+_, _-_, zero-le}
+use Prim.Native.Nat.{ℕ, zero, suc, _+_, _-_, _≤_, zero-le}
 use native.Mathlib.Omega.{arith}
 use mathlib.Core.Path.{_≡_, refl, ap, ap₂, sym, _∙_}
 use mathlib.Core.Bool.{Bool, true, false, _&&_}
 use mathlib.Core.List.{List, [], _∷_, _++_, append-nil, map}
+use mathlib.Core.Logic.{_⊎_, inl, inr}
 use mathlib.Core.Option.{none}
-use lib.ListN.{length, take, drop, length-map}
+use lib.ListN.{length, drop, length-map}
 use lib.Seq.{take-length, take-at, drop-at}
-use Rattle.desk.specs.Push.{Seen, seen, shifted}
 use Rattle.desk.specs.Search.{is0, upTo1, upTo2, stands, first, trail}
 use Rattle.desk.proofs.Bytes.{not-0}
-use Rattle.desk.proofs.Cutting.{gave-bytes, gave-marks}
+use Rattle.rbsp.specs.Promise.{RoomFor}
 use Rattle.rbsp.specs.Rule.{escape, unescape}
 use Rattle.rbsp.proofs.Escaping.{escape-trail}
+use Rattle.rbsp.proofs.Rooms.{write-way}
+use Rattle.rbsp.proofs.Showing.{shows-unescaped, decode-done}
 use Rattle.rbsp.proofs.Traces.{reading, writing}
-use Rattle.annexb.specs.Answer.{resetAnswer}
-use Rattle.annexb.specs.Rule.{frame, givenOf, endsOf, unitsAtReset, joined, endsFrom}
-use Rattle.annexb.specs.Seen.{stateIn, seenIn}
+use Rattle.annexb.specs.Rule.{unitsAtReset, joined, endsFrom}
+use Rattle.annexb.specs.Seen.{new}
 use Rattle.annexb.specs.Syntax.{ByteStreamNalUnit, byteStream, Allowed, AllAllowed, NoneJoin, nalUnits}
-use Rattle.annexb.specs.declared.AnnexBReader.{AnnexBReader}
-use Rattle.annexb.proofs.Completing.{reset-completes}
-use Rattle.annexb.proofs.Laws.{pushes-rule}
+use Rattle.annexb.proofs.Calling.{pushes-reset}
+use Rattle.annexb.proofs.Laws.{frame-way}
 use Rattle.annexb.proofs.Table.{table-exact}
-use Rattle.units.specs.Units.{Written, nal, nals, stream, Read, cutAt, UnitForUnit, Unescapes}
+use Rattle.annexb.proofs.Ways.{reset-way, pushes-good}
+use Rattle.units.specs.Units.{Plain, Written, nal, nals, stream, Read, cutAt, Unescapes, Shows, AllBack, UnitForUnit, UnitsWay}
 
 -- ---- a written unit is a NAL unit that Rec B.1 allows
 
@@ -62,11 +63,13 @@ header-trail b (x ∷ y ∷ s) z e = e
 allowed : (u : Written) → Allowed (nal u)
 allowed u =
     let w = writing (u .pushes) in
-    let z = not-0 (u .header) (u .header-some) in
-    let all : take (length (u .rbsp)) (u .rbsp) ≡ u .rbsp = take-length (u .rbsp) in
+    let p = u .plain in
+    let z = not-0 (p .header) (p .header-some) in
     record {
-      no-code = header-none (u .header) (u .escaped) z (no-three-none (u .escaped) (w .legal .no-three));
-      no-last-zero = header-trail (u .header) (u .escaped) z (ap trail (w .bytes ∙ ap escape all) ∙ escape-trail (u .rbsp) (u .no-last-zero));
+      no-code = header-none (p .header) (u .escaped) z (no-three-none (u .escaped) (w .legal .no-three));
+      no-last-zero =
+          header-trail (p .header) (u .escaped) z
+          (ap trail (w .bytes ∙ ap escape (take-length (p .rbsp))) ∙ escape-trail (p .rbsp) (p .no-last-zero));
     }
 
 -- ---- the stream by the syntax table of B.1.1
@@ -101,7 +104,8 @@ cut-joined : (k : ℕ) (us : List (List ℕ)) → cutAt k (endsFrom k us) (joine
 cut-joined k [] = refl
 cut-joined k (u ∷ us) =
     let n : k + length u - k ≡ length u = omega arith in
-    rw n (ap₂ {C = List (List ℕ)} (λ a b. a ∷ b) (take-at u (joined us) (length u) refl) (ap (cutAt (k + length u) (endsFrom (k + length u) us)) (drop-at u (joined us) (length u) refl) ∙ cut-joined (k + length u) us))
+    rw n (ap₂ {C = List (List ℕ)} (λ a b. a ∷ b) (take-at u (joined us) (length u) refl)
+    (ap (cutAt (k + length u) (endsFrom (k + length u) us)) (drop-at u (joined us) (length u) refl) ∙ cut-joined (k + length u) us))
 
 ends-count : (k : ℕ) (us : List (List ℕ)) → length (endsFrom k us) ≡ length us
 ends-count k [] = refl
@@ -109,14 +113,31 @@ ends-count k (u ∷ us) = ap suc (ends-count (k + length u) us)
 
 pub read-units : (s bytes ends : List ℕ) → Read s bytes ends → (bytes ≡ joined (unitsAtReset s)) × (ends ≡ endsFrom 0 (unitsAtReset s))
 read-units s bytes ends r =
-    let c = pushes-rule zero-le (r .pushes) in
-    let e : seenIn (frame s) ≡ seen (r .state) (r .given) (r .marked) = ap (λ (l : List ℕ). seenIn (frame l)) (sym (take-length s)) ∙ c .rule-gives in
-    let st : stateIn (frame s) ≡ r .state = ap (λ (v : Seen AnnexBReader). v .state) e in
-    let g : givenOf (frame s) ≡ r .given = ap (λ (v : Seen AnnexBReader). v .bytes) e in
-    let m : endsOf (frame s) ≡ r .marked = ap (λ (v : Seen AnnexBReader). v .ends) e in
-    let o = r .reset in
-    let p = rw st at (reset-completes (frame s) (length (r .room)) (length (r .marks)) (ap (λ (x : AnnexBReader). resetAnswer x (length (r .room)) (length (r .marks)) .number) st ∙ sym (o .number-is) ∙ r .done)) in
-    (r .bytes-are ∙ ap₂ _++_ (sym g) (gave-bytes o) ∙ p .bytes-all, r .ends-are ∙ ap₂ _++_ (sym m) (ap₂ shifted (ap length (sym g)) (gave-marks o)) ∙ p .ends-all)
+    let w = pushes-reset (r .pushes) (r .room) (r .marks) (r .room′) (r .marks′) (r .closed) (r .reset) (r .done) in
+    let all = ap unitsAtReset (take-length s) in
+    (r .bytes-are ∙ w .bytes-are ∙ ap joined all, r .ends-are ∙ w .ends-are ∙ ap (endsFrom 0) all)
+
+-- ---- each unescapes to its RBSP
+
+unescaped : (u : Written) → unescape (u .escaped) ≡ u .plain .rbsp
+unescaped u = writing (u .pushes) .back ∙ take-length (u .plain .rbsp)
+
+pub unescapes : (u : Written) → Unescapes u
+unescapes u s given ends p = reading 1 p .bytes ∙ ap (λ (l : List ℕ). unescape (drop 1 l)) (take-length (nal u)) ∙ unescaped u
+
+pub shows : (u : Written) → Shows u
+shows u room room′ r d nf rf room-for =
+    let e = unescaped u in
+    let z = decode-done (nal u) room room′ r d (omega arith) nf rf (writing (u .pushes) .legal) (fits room-for) in
+    (z, shows-unescaped (nal u) room room′ r d z ∙ e)
+  where
+    fits : (length (u .plain .rbsp) ≤ length room) ⊎ (u .plain .rbsp ≡ u .escaped) → RoomFor (nal u) room
+    fits (inl h) = inl (let n = ap length (unescaped u) in omega arith)
+    fits (inr h) = inr (unescaped u ∙ h)
+
+all-back : (us : List Written) → AllBack us
+all-back [] = tt
+all-back (u ∷ us) = (unescapes u, shows u, all-back us)
 
 -- UNIT FOR UNIT
 pub unit-for-unit : (us : List Written) (bytes ends : List ℕ) → Read (stream us) bytes ends → UnitForUnit us bytes ends
@@ -129,10 +150,42 @@ unit-for-unit us bytes ends r =
       units = ap₂ (cutAt 0) m b ∙ cut-joined 0 (nals us);
       count = ap length m ∙ ends-count 0 (nals us) ∙ length-map us nal;
       all-bytes = b;
+      rbsps = all-back us;
     }
 
--- and each unescapes to its RBSP
-pub unescapes : (u : Written) → Unescapes u
-unescapes u s given ends p =
-    let w = writing (u .pushes) in
-    reading 1 p .bytes ∙ ap (λ (l : List ℕ). unescape (drop 1 l)) (take-length (nal u)) ∙ w .back ∙ take-length (u .rbsp)
+-- ---- there is a way
+
+abbrev byteWise : Plain → Written
+byteWise p = let w = write-way (p .rbsp) in record { plain = p; escaped = w .given; state = w .state; marks = w .ends; pushes = w .pushes }
+
+pub units-way : (ps : List Plain) → UnitsWay ps
+units-way ps =
+    let us = map byteWise ps in
+    let w = frame-way new zero-le (stream us) in
+    let z = reset-way (w .state) (pushes-good (w .pushes)) in
+    record {
+      units = us;
+      plain-are = plain-again ps;
+      bytes = _;
+      ends = _;
+      read =
+          record {
+            state = w .state;
+            given = w .given;
+            marked = w .ends;
+            pushes = w .pushes;
+            room = 0 ∷ 0 ∷ [];
+            room′ = z .room′;
+            marks = 0 ∷ [];
+            marks′ = z .marks′;
+            closed = z .closed;
+            reset = z .reset;
+            done = z .done;
+            bytes-are = refl;
+            ends-are = refl;
+          };
+    }
+  where
+    plain-again : (ps : List Plain) → map (λ (u : Written). u .plain) (map byteWise ps) ≡ ps
+    plain-again [] = refl
+    plain-again (p ∷ ps) = ap {B = List Plain} (λ l. p ∷ l) (plain-again ps)

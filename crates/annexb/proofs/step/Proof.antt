@@ -11,7 +11,9 @@ does-requires : tie.Need-does-requires
 does-requires c κs = search needs
 
 returns : tie.Need-returns
-returns c = rw (c .does .ensures, c .before .before .before .if1 .taken, c .before .before .if2 .taken) (two-zeros (c .before .before .before .before .args .s .«in_unit»))
+returns c =
+    rw (c .does .ensures, c .before .before .before .if1 .taken, c .before .before .if2 .taken)
+    (two-zeros (c .before .before .before .before .args .s .«in_unit»))
 
 cast-does-2 : tie.Need-cast-does-2
 cast-does-2 c = search needs
@@ -20,7 +22,9 @@ does-requires-2 : tie.Need-does-requires-2
 does-requires-2 c κs = search needs
 
 returns-2 : tie.Need-returns-2
-returns-2 c = rw (c .does2 .ensures, c .before .before .before .before .if1 .taken, c .before .before .if3 .taken) (two-one (c .before .before .before .before .before .args .s .«in_unit»))
+returns-2 c =
+    rw (c .does2 .ensures, c .before .before .before .before .if1 .taken, c .before .before .if3 .taken)
+    (two-one (c .before .before .before .before .before .args .s .«in_unit»))
 
 add-does : tie.Need-add-does
 add-does c = search needs

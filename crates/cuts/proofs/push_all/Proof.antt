@@ -1,4 +1,3 @@
-use Prim.Native.Nat.{_-_}
 use mathlib.Core.Path.{_≡_}
 use lib.ListN.{length}
 use borrow.Author.Needs.{needs}
@@ -6,10 +5,10 @@ use Rattle.cuts.proofs.push_all.Statement.{statement}
 use Rattle.cuts.proofs.push_all.Tie as tie
 
 abbrev Inv-loop : tie.InvT-loop
-Inv-loop piece room₀ marks₀ wanted ends r₀ at₀ turns₀ room marks r at turns = (length room ≡ length room₀) × (length marks ≡ length marks₀)
+Inv-loop piece lend room₀ marks₀ wanted ends r₀ at₀ turns₀ room marks r at turns = (length room ≡ length room₀) × (length marks ≡ length marks₀)
 
 abbrev μ-loop : tie.MeasureT-loop
-μ-loop piece room₀ marks₀ wanted ends r₀ at₀ turns₀ room marks r at turns = turns
+μ-loop piece lend room₀ marks₀ wanted ends r₀ at₀ turns₀ room marks r at turns = turns
 
 loop-holds : tie.Need-loop-holds Inv-loop μ-loop
 loop-holds c = search needs
@@ -23,14 +22,17 @@ same-length-2 c = search needs
 returns : tie.Need-returns Inv-loop μ-loop
 returns c = search needs
 
-sub-push : tie.Need-sub-push Inv-loop μ-loop
-sub-push c = search needs
+sub-front : tie.Need-sub-front Inv-loop μ-loop
+sub-front c = search needs
 
-part-push-start : tie.Need-part-push-start Inv-loop μ-loop
-part-push-start c = search needs
+part-front-start : tie.Need-part-front-start Inv-loop μ-loop
+part-front-start c = search needs
 
-part-push-end : tie.Need-part-push-end Inv-loop μ-loop
-part-push-end c = search needs
+part-front-end : tie.Need-part-front-end Inv-loop μ-loop
+part-front-end c = search needs
+
+front-requires : tie.Need-front-requires Inv-loop μ-loop
+front-requires c κs = search needs
 
 push-requires : tie.Need-push-requires Inv-loop μ-loop
 push-requires c κs = search needs
@@ -69,9 +71,10 @@ push-all-spec =
     same-length
     same-length-2
     returns
-    sub-push
-    part-push-start
-    part-push-end
+    sub-front
+    part-front-start
+    part-front-end
+    front-requires
     push-requires
     after-call-requires
     wrapping-add-usize-requires

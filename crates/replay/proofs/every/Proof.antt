@@ -5,7 +5,8 @@ use Rattle.replay.proofs.every.Statement.{statement}
 use Rattle.replay.proofs.every.Tie as tie
 
 abbrev Inv-loop : tie.InvT-loop
-Inv-loop fd body₀ room₀ marks₀ counts₀ turns₀ body room marks counts turns = (length body ≡ length body₀) × (length room ≡ length room₀) × (length marks ≡ length marks₀)
+Inv-loop fd body₀ room₀ marks₀ counts₀ turns₀ body room marks counts turns =
+    (length body ≡ length body₀) × (length room ≡ length room₀) × (length marks ≡ length marks₀)
 
 abbrev μ-loop : tie.MeasureT-loop
 μ-loop fd body₀ room₀ marks₀ counts₀ turns₀ body room marks counts turns = turns

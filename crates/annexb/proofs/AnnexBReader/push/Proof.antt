@@ -14,7 +14,8 @@ use Rattle.annexb.proofs.AnnexBReader.push.Statement.{statement}
 use Rattle.annexb.proofs.AnnexBReader.push.Tie as tie
 
 abbrev Inv-loop : tie.InvT-loop
-Inv-loop chunk room₀ marks₀ number state₀ taken₀ written₀ marked₀ room marks state taken written marked = Reading chunk room₀ marks₀ state₀ room marks state taken written marked
+Inv-loop chunk room₀ marks₀ number state₀ taken₀ written₀ marked₀ room marks state taken written marked =
+    Reading chunk room₀ marks₀ state₀ room marks state taken written marked
 
 abbrev μ-loop : tie.MeasureT-loop
 μ-loop chunk room₀ marks₀ number state₀ taken₀ written₀ marked₀ room marks state taken written marked = length chunk - taken
@@ -36,7 +37,9 @@ loop-holds c =
     let a = c .before .before .before .before .before .before .args in
     record {
       going = going-none stepping (now (a .chunk)) (now (a .room)) (now (a .marks)) (a .self);
-      few = zeros-passed (length (now (a .chunk)) ∷ length (now (a .room)) ∷ length (now (a .marks)) ∷ []) (a .self .zeros) (c .before .entry .result) (c .before .entry .ensures) (c .if1 .left);
+      few =
+          zeros-passed (length (now (a .chunk)) ∷ length (now (a .room)) ∷ length (now (a .marks)) ∷ []) (a .self .zeros) (c .before .entry .result)
+          (c .before .entry .ensures) (c .if1 .left);
     }
 
 shared-slice-read-b : tie.Need-shared-slice-read-b Inv-loop μ-loop
@@ -133,7 +136,8 @@ loop-again c =
     let f2 = f3 .before in
     let p = f2 .before .before in
     let l = p .before .before .before .loop in
-    takes (l .inv) (p .before .before .loop-test .taken) refl (p .step .ensures) (f2 .if2 .left) (f3 .if3 .left) _ _ (q .put .ensures) (pm .put-mark .ensures)
+    takes (l .inv) (p .before .before .loop-test .taken) refl (p .step .ensures) (f2 .if2 .left) (f3 .if3 .left) _ _ (q .put .ensures)
+    (pm .put-mark .ensures)
 
 gave-requires-3 : tie.Need-gave-requires-3 Inv-loop μ-loop
 gave-requires-3 c κs = search needs
@@ -147,7 +151,8 @@ same-length-6 c = search needs
 returns-4 : tie.Need-returns-4 Inv-loop μ-loop
 returns-4 c =
     let l = c .before .before in
-    push-gives (l .loop .inv) (l .before .before .entry .ensures) (l .before .if1 .left) (c .gave3 .ensures) (stop-end (l .loop .inv .going) (c .before .loop-test .left))
+    push-gives (l .loop .inv) (l .before .before .entry .ensures) (l .before .if1 .left) (c .gave3 .ensures)
+    (stop-end (l .loop .inv .going) (c .before .loop-test .left))
 
 pub push-spec : {M : Type 1} → statement M
 push-spec =

@@ -24,7 +24,9 @@ returns-2 : tie.Need-returns-2
 returns-2 c =
     let e = c .before .before .before .before in
     let a = e .before .before .before .before .args in
-    rw (c .refused2 .ensures) (reset-outside (a .self) (now (a .room)) (now (a .marks)) (e .entry .ensures) (c .before .before .before .if1 .left) (not-true (a .self .«in_unit») (c .before .if2 .taken)))
+    rw (c .refused2 .ensures)
+    (reset-outside (a .self) (now (a .room)) (now (a .marks)) (e .entry .ensures) (c .before .before .before .if1 .left)
+    (not-true (a .self .«in_unit») (c .before .if2 .taken)))
 
 cast-zeros : tie.Need-cast-zeros
 cast-zeros c = search needs
@@ -36,7 +38,9 @@ returns-3 : tie.Need-returns-3
 returns-3 c =
     let e = c .before .before .before .before .before .before in
     let a = e .before .before .before .before .args in
-    rw (c .refused3 .ensures) (reset-no-room (a .self) (now (a .room)) (now (a .marks)) (e .entry .ensures) (c .before .before .before .before .before .if1 .left) (not-false (a .self .«in_unit») (c .before .before .before .if2 .left)) (c .before .if3 .taken))
+    rw (c .refused3 .ensures)
+    (reset-no-room (a .self) (now (a .room)) (now (a .marks)) (e .entry .ensures) (c .before .before .before .before .before .if1 .left)
+    (not-false (a .self .«in_unit») (c .before .before .before .if2 .left)) (c .before .if3 .taken))
 
 refused-requires-4 : tie.Need-refused-requires-4
 refused-requires-4 c κs = search needs
@@ -45,7 +49,9 @@ returns-4 : tie.Need-returns-4
 returns-4 c =
     let e = c .before .before .before .before .before .before .before in
     let a = e .before .before .before .before .args in
-    rw (c .refused4 .ensures) (reset-no-mark (a .self) (now (a .room)) (now (a .marks)) (e .entry .ensures) (c .before .before .before .before .before .before .if1 .left) (not-false (a .self .«in_unit») (c .before .before .before .before .if2 .left)) (c .before .if4 .taken))
+    rw (c .refused4 .ensures)
+    (reset-no-mark (a .self) (now (a .room)) (now (a .marks)) (e .entry .ensures) (c .before .before .before .before .before .before .if1 .left)
+    (not-false (a .self .«in_unit») (c .before .before .before .before .if2 .left)) (c .before .if4 .taken))
 
 put-zeros-requires : tie.Need-put-zeros-requires
 put-zeros-requires c κs = search needs
@@ -69,7 +75,9 @@ returns-5 c =
     let e = f .before .before .before in
     let a = e .before .before .before .before .args in
     rw (c .gave .ensures)
-    (reset-ends (a .self) (now (a .room)) (now (a .marks)) (e .entry .ensures) (f .before .before .if1 .left) (not-false (a .self .«in_unit») (f .if2 .left)) _ _ (i .before .if3 .left) (i .if4 .left) (c .before .before .before .before .before .before .before .put-zeros .ensures) (c .before .before .before .put-mark .ensures))
+    (reset-ends (a .self) (now (a .room)) (now (a .marks)) (e .entry .ensures) (f .before .before .if1 .left)
+    (not-false (a .self .«in_unit») (f .if2 .left)) _ _ (i .before .if3 .left) (i .if4 .left)
+    (c .before .before .before .before .before .before .before .put-zeros .ensures) (c .before .before .before .put-mark .ensures))
 
 pub reset-spec : {M : Type 1} → statement M
 reset-spec =

@@ -12,12 +12,14 @@ entry-requires c κs = search needs
 returns : tie.Need-returns
 returns c =
     let a = c .before .before .before .before .args in
-    says-long (now (a .nal)) (now (a .room)) (entry-long (length (now (a .nal))) (length (now (a .room))) _ (c .before .entry .ensures) (c .if1 .taken))
+    says-long (now (a .nal)) (now (a .room))
+    (entry-long (length (now (a .nal))) (length (now (a .room))) _ (c .before .entry .ensures) (c .if1 .taken))
 
 returns-2 : tie.Need-returns-2
 returns-2 c =
     let a = c .before .before .before .before .before .args in
-    says-empty (now (a .nal)) (now (a .room)) (c .if2 .taken) (entry-fits (length (now (a .nal))) (length (now (a .room))) _ (c .before .before .entry .ensures) (c .before .if1 .left) .1)
+    says-empty (now (a .nal)) (now (a .room)) (c .if2 .taken)
+    (entry-fits (length (now (a .nal))) (length (now (a .room))) _ (c .before .before .entry .ensures) (c .before .if1 .left) .1)
 
 tail-of-requires : tie.Need-tail-of-requires
 tail-of-requires c κs = search needs
@@ -32,7 +34,12 @@ add-t12 : tie.Need-add-t12
 add-t12 c =
     let nal = now (c .before .before .before .before .before .before .before .before .before .before .args .nal) in
     let v = c .before .before .before .survey in
-    omega (arith, broken-is _ (drop 1 nal) (v .result) (c .before .seen .given .0 .0) (v .ensures) (c .before .seen .given .1) (c .before .before .before .before .tail-of .ensures) .1, length-drop 1 nal)
+    omega (
+      arith,
+      broken-is _ (drop 1 nal) (v .result) (c .before .seen .given .0 .0) (v .ensures) (c .before .seen .given .1)
+          (c .before .before .before .before .tail-of .ensures) .1,
+      length-drop 1 nal,
+    )
 
 enum-known-seen-2 : tie.Need-enum-known-seen-2
 enum-known-seen-2 c = search needs
@@ -41,17 +48,33 @@ fill-requires : tie.Need-fill-requires
 fill-requires c κs =
     let a = c .before .before .before .before .before .before .before .before .before .before .before .args in
     let v = c .before .before .before .before .survey in
-    let few = entry-fits (length (now (a .nal))) (length (now (a .room))) _ (c .before .before .before .before .before .before .before .before .entry .ensures) (c .before .before .before .before .before .before .before .if1 .left) in
-    let k = kept-is _ (drop 1 (now (a .nal))) (v .result) (c .before .before .seen2 .given .0 .0) (v .ensures) (c .before .before .seen2 .given .1) (c .before .before .before .before .before .tail-of .ensures) in
-    record { some-nal = omega (arith, c .before .before .before .before .before .before .if2 .left); nal-few = few .0; room-few = few .1; unbroken = k .0; kept-is = k .1 }
+    let few =
+    entry-fits (length (now (a .nal))) (length (now (a .room))) _
+    (c .before .before .before .before .before .before .before .before .entry .ensures)
+    (c .before .before .before .before .before .before .before .if1 .left) in
+    let k =
+    kept-is _ (drop 1 (now (a .nal))) (v .result) (c .before .before .seen2 .given .0 .0) (v .ensures) (c .before .before .seen2 .given .1)
+    (c .before .before .before .before .before .tail-of .ensures) in
+    record {
+      some-nal = omega (arith, c .before .before .before .before .before .before .if2 .left);
+      nal-few = few .0;
+      room-few = few .1;
+      unbroken = k .0;
+      kept-is = k .1;
+    }
 
 returns-3 : tie.Need-returns-3
 returns-3 c =
     let a = c .before .before .before .before .before .before .before .before .before .before .args in
     let v = c .before .before .before .survey in
-    let few = entry-fits (length (now (a .nal))) (length (now (a .room))) _ (c .before .before .before .before .before .before .before .entry .ensures) (c .before .before .before .before .before .before .if1 .left) in
-    let k = broken-is _ (drop 1 (now (a .nal))) (v .result) (c .before .seen .given .0 .0) (v .ensures) (c .before .seen .given .1) (c .before .before .before .before .tail-of .ensures) in
-    says-forbidden (now (a .nal)) (now (a .room)) (c .before .seen .given .0 .0) (omega (arith, c .before .before .before .before .before .if2 .left)) (few .0) (few .1) (k .0)
+    let few =
+    entry-fits (length (now (a .nal))) (length (now (a .room))) _ (c .before .before .before .before .before .before .before .entry .ensures)
+    (c .before .before .before .before .before .before .if1 .left) in
+    let k =
+    broken-is _ (drop 1 (now (a .nal))) (v .result) (c .before .seen .given .0 .0) (v .ensures) (c .before .seen .given .1)
+    (c .before .before .before .before .tail-of .ensures) in
+    says-forbidden (now (a .nal)) (now (a .room)) (c .before .seen .given .0 .0)
+    (omega (arith, c .before .before .before .before .before .if2 .left)) (few .0) (few .1) (k .0)
 
 same-length : tie.Need-same-length
 same-length c = search needs

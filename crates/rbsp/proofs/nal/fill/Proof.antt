@@ -29,8 +29,10 @@ returns-3 : tie.Need-returns-3
 returns-3 c =
     let s = c .before .before .before .before .before .before .before .before .before in
     let p = c .before .before .push in
-    says-filled (now (s .args .nal)) (now (s .args .room)) _ (s .args .kept) (p .result) (s .pre) (c .before .before .before .before .before .before .if1 .left) (c .before .before .before .before .before .if2 .left)
-    (subst (λ (x : ParseState). ReadPush x (now (s .args .nal)) (now (s .args .room)) (p .last .1 .1 .0) (p .result)) (c .before .before .before .before .skipping-h264-header .ensures) (p .ensures))
+    says-filled (now (s .args .nal)) (now (s .args .room)) _ (s .args .kept) (p .result) (s .pre)
+    (c .before .before .before .before .before .before .if1 .left) (c .before .before .before .before .before .if2 .left)
+    (subst (λ (x : ParseState). ReadPush x (now (s .args .nal)) (now (s .args .room)) (p .last .1 .1 .0) (p .result))
+    (c .before .before .before .before .skipping-h264-header .ensures) (p .ensures))
 
 pub fill-spec : {M : Type 1} → statement M
 fill-spec =

@@ -35,8 +35,11 @@ returns : tie.Need-returns Inv-loop μ-loop
 returns c =
     let l = c .before .before .before .before .before in
     let st = c .before .before .step in
-    let b = getD (now (l .before .before .args .tail)) (l .loop .i) 0 in
-    (surveying-forbidden (l .loop .inv) (c .before .before .before .before .loop-test .taken) (forbids-is (st .result) (l .loop .state) b (st .ensures) (c .enum-told .given .1)), c .before .before .before .before .loop-test .taken)
+    let b = getD (now (l .before .before .args .tail)) (l .loop .i) 0 in (
+      surveying-forbidden (l .loop .inv) (c .before .before .before .before .loop-test .taken)
+          (forbids-is (st .result) (l .loop .state) b (st .ensures) (c .enum-told .given .1)),
+      c .before .before .before .before .loop-test .taken,
+    )
 
 loop-again : tie.Need-loop-again Inv-loop μ-loop
 loop-again c =
@@ -45,7 +48,8 @@ loop-again c =
     let s = c .before .s .given in
     let b = getD (now (l .before .before .args .tail)) (l .loop .i) 0 in
     let q = took-is (st .result) (l .loop .state) b (s .0 .0) (s .0 .1 .0) (st .ensures) (s .1) in
-    surveying-more (l .loop .inv) (c .before .before .before .before .before .loop-test .taken) (s .0 .0) (s .0 .1 .0) (next-one (l .loop .state) b (s .0 .1 .0) (s .0 .0) q) q
+    surveying-more (l .loop .inv) (c .before .before .before .before .before .loop-test .taken) (s .0 .0) (s .0 .1 .0)
+    (next-one (l .loop .state) b (s .0 .1 .0) (s .0 .0) q) q
 
 add-kept : tie.Need-add-kept Inv-loop μ-loop
 add-kept c = omega (arith, loop-again c .few, loop-again c .within)

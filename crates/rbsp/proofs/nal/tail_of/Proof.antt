@@ -20,7 +20,8 @@ part-result-end : tie.Need-part-result-end
 part-result-end c = search needs
 
 returns-2 : tie.Need-returns-2
-returns-2 c = ap (λ (n : ℕ). take n (drop 1 (c .before .before .args .nal .now))) (sym (length-drop 1 (c .before .before .args .nal .now))) ∙ take-length _
+returns-2 c =
+    ap (λ (n : ℕ). take n (drop 1 (c .before .before .args .nal .now))) (sym (length-drop 1 (c .before .before .args .nal .now))) ∙ take-length _
 
 pub tail-of-spec : {M : Type 1} → statement M
 tail-of-spec = tie.close (tie.spec returns sub-result part-result-start part-result-end returns-2)

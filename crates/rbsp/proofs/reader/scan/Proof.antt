@@ -14,7 +14,8 @@ returns-2 : tie.Need-returns-2
 returns-2 c = rw (is-two _ (c .before .if1 .left), c .match .keys1)
 
 returns-3 : tie.Need-returns-3
-returns-3 c = simp (is-two _ (c .before .before .if1 .left), not-3 _ (c .before .match .rest .1), up-to-2 (c .before .before .before .args .b) (omega arith))
+returns-3 c =
+    simp (is-two _ (c .before .before .if1 .left), not-3 _ (c .before .match .rest .1), up-to-2 (c .before .before .before .args .b) (omega arith))
 
 returns-4 : tie.Need-returns-4
 returns-4 c = simp (is-two _ (c .before .before .if1 .left), not-3 _ (c .before .match .rest .1), above-2 _ (c .if2 .left))

@@ -29,7 +29,8 @@ returns : tie.Need-returns Inv-loop μ-loop
 returns c =
     let a = c .before .before .before .before .before .args in
     let e = c .before .entry in
-    refused next (e .result) _ (a .self .state) (now (a .chunk)) (now (a .out)) (entry-is (e .result) _ _ _ (e .ensures) (c .before .before .is-bad .ensures)) (c .if1 .taken)
+    refused next (e .result) _ (a .self .state) (now (a .chunk)) (now (a .out))
+    (entry-is (e .result) _ _ _ (e .ensures) (c .before .before .is-bad .ensures)) (c .if1 .taken)
 
 loop-holds : tie.Need-loop-holds Inv-loop μ-loop
 loop-holds c = going-none next _ _ [] _
@@ -56,7 +57,8 @@ returns-2 c =
     let st = c .before .before .step in
     let b = getD (now (p .before .before .before .before .args .chunk)) (l .loop .taken) 0 in
     let q = forbids-is (st .result) (l .loop .state) b (st .ensures) (c .enum-told .given .1) in
-    gives (l .loop .inv) _ (sym (entry-is (p .entry .result) _ _ _ (p .entry .ensures) (p .before .is-bad .ensures)) ∙ l .before .if1 .left) 7 (stop-forbidden (l .loop .inv) (c .before .before .before .before .loop-test .taken) refl q)
+    gives (l .loop .inv) _ (sym (entry-is (p .entry .result) _ _ _ (p .entry .ensures) (p .before .is-bad .ensures)) ∙ l .before .if1 .left) 7
+    (stop-forbidden (l .loop .inv) (c .before .before .before .before .loop-test .taken) refl q)
 
 sub-if2 : tie.Need-sub-if2 Inv-loop μ-loop
 sub-if2 c = search needs
@@ -72,7 +74,9 @@ returns-3 c =
     let s = c .before .before .s .given in
     let b = getD (now (p .before .before .before .before .args .chunk)) (l .loop .taken) 0 in
     let q = took-is (st .result) (l .loop .state) b (s .0 .0) (s .0 .1 .0) (st .ensures) (s .1) in
-    gives (l .loop .inv) _ (sym (entry-is (p .entry .result) _ _ _ (p .entry .ensures) (p .before .is-bad .ensures)) ∙ l .before .if1 .left) 0 (full (l .loop .inv) (c .before .before .before .before .before .before .loop-test .taken) refl (s .0 .0) (replicate (s .0 .1 .0) b) q (s .0 .1 .0) (length-replicate (s .0 .1 .0) b) (c .if2 .taken))
+    gives (l .loop .inv) _ (sym (entry-is (p .entry .result) _ _ _ (p .entry .ensures) (p .before .is-bad .ensures)) ∙ l .before .if1 .left) 0
+    (full (l .loop .inv) (c .before .before .before .before .before .before .loop-test .taken) refl (s .0 .0) (replicate (s .0 .1 .0) b) q
+    (s .0 .1 .0) (length-replicate (s .0 .1 .0) b) (c .if2 .taken))
 
 sub-put : tie.Need-sub-put Inv-loop μ-loop
 sub-put c = search needs
@@ -89,8 +93,11 @@ put-requires c κs =
     let s = c .before .before .before .s .given in
     let l = c .before .before .before .before .before .before .before .before in
     let b = getD (now (l .before .before .before .before .before .before .args .chunk)) (l .loop .taken) 0 in
-    let q = took-is (st .result) (l .loop .state) b (s .0 .0) (s .0 .1 .0) (st .ensures) (s .1) in
-    (next-one (l .loop .state) b (s .0 .1 .0) (s .0 .0) q, omega (arith, c .before .if2 .left, mid-len (l .loop .written) (length (l .loop .out)) (l .loop .out) (le-refl _)))
+    let q = took-is (st .result) (l .loop .state) b (s .0 .0) (s .0 .1 .0) (st .ensures) (s .1) in (
+      next-one (l .loop .state) b (s .0 .1 .0) (s .0 .0) q,
+      omega
+          (arith, c .before .if2 .left, mid-len (l .loop .written) (length (l .loop .out)) (l .loop .out) (le-refl _)),
+    )
 
 add-written : tie.Need-add-written Inv-loop μ-loop
 add-written c = search needs
@@ -108,7 +115,9 @@ loop-again c =
     let l = c .before .before .before .before .before .before .before .before .before .before .before in
     let b = getD (now (l .before .before .before .before .before .before .args .chunk)) (l .loop .taken) 0 in
     let q = took-is (st .result) (l .loop .state) b (s .0 .0) (s .0 .1 .0) (st .ensures) (s .1) in
-    more (l .loop .inv) (c .before .before .before .before .before .before .before .before .before .before .loop-test .taken) refl (s .0 .0) (replicate (s .0 .1 .0) b) q (s .0 .1 .0) (length-replicate (s .0 .1 .0) b) _ (c .before .before .before .before .if2 .left) (c .before .before .put .ensures)
+    more (l .loop .inv) (c .before .before .before .before .before .before .before .before .before .before .loop-test .taken) refl (s .0 .0)
+    (replicate (s .0 .1 .0) b) q (s .0 .1 .0) (length-replicate (s .0 .1 .0) b) _ (c .before .before .before .before .if2 .left)
+    (c .before .before .put .ensures)
 
 same-length-3 : tie.Need-same-length-3 Inv-loop μ-loop
 same-length-3 c = search needs
@@ -117,7 +126,8 @@ returns-4 : tie.Need-returns-4 Inv-loop μ-loop
 returns-4 c =
     let l = c .before in
     let p = l .before .before in
-    gives (l .loop .inv) _ (sym (entry-is (p .entry .result) _ _ _ (p .entry .ensures) (p .before .is-bad .ensures)) ∙ l .before .if1 .left) 0 (stop-end (l .loop .inv) (c .loop-test .left))
+    gives (l .loop .inv) _ (sym (entry-is (p .entry .result) _ _ _ (p .entry .ensures) (p .before .is-bad .ensures)) ∙ l .before .if1 .left) 0
+    (stop-end (l .loop .inv) (c .loop-test .left))
 
 pub push-spec : {M : Type 1} → statement M
 push-spec =

@@ -48,7 +48,8 @@ returns-2 c =
     let l = c .before .before .before .before .before in
     let b = getD (now (l .before .before .before .before .before .before .args .chunk)) (l .loop .taken) 0 in
     gives (l .loop .inv) _ (sym (l .before .before .entry .ensures) ∙ l .before .if1 .left) 0
-    (full (l .loop .inv) (c .before .before .before .before .loop-test .taken) refl (st .result .after) (released (st .result .count) b) (st .ensures .next-is) (st .result .count) (released-length (st .result .count) b (st .ensures .most-two)) (c .if2 .taken))
+    (full (l .loop .inv) (c .before .before .before .before .loop-test .taken) refl (st .result .after) (released (st .result .count) b)
+    (st .ensures .next-is) (st .result .count) (released-length (st .result .count) b (st .ensures .most-two)) (c .if2 .taken))
 
 sub-put : tie.Need-sub-put Inv-loop μ-loop
 sub-put c = search needs
@@ -79,7 +80,9 @@ loop-again c =
     let st = c .before .before .before .before .before .before .stuff in
     let l = c .before .before .before .before .before .before .before .before .before in
     let b = getD (now (l .before .before .before .before .before .before .args .chunk)) (l .loop .taken) 0 in
-    more (l .loop .inv) (c .before .before .before .before .before .before .before .before .loop-test .taken) refl (st .result .after) (released (st .result .count) b) (st .ensures .next-is) (st .result .count) (released-length (st .result .count) b (st .ensures .most-two)) _ (c .before .before .before .before .if2 .left) (c .before .before .put .ensures)
+    more (l .loop .inv) (c .before .before .before .before .before .before .before .before .loop-test .taken) refl (st .result .after)
+    (released (st .result .count) b) (st .ensures .next-is) (st .result .count) (released-length (st .result .count) b (st .ensures .most-two)) _
+    (c .before .before .before .before .if2 .left) (c .before .before .put .ensures)
 
 same-length-2 : tie.Need-same-length-2 Inv-loop μ-loop
 same-length-2 c = search needs
