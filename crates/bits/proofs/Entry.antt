@@ -68,7 +68,7 @@ why-entry {s} {p} (past h l) = entry-bad (length s ∷ 0 ∷ 0 ∷ []) (ltb (siz
 
 -- ---- a writer's
 
-neither : (a b : Bool) → (a || b) ≡ false → (a ≡ false) × (b ≡ false)
+pub neither : (a b : Bool) → (a || b) ≡ false → (a ≡ false) × (b ≡ false)
 neither false false h = (refl, refl)
 neither false true h = absurd (let z : _≡_ {A = ℕ} 0 1 = cc in omega arith)
 neither true b h = absurd (let z : _≡_ {A = ℕ} 0 1 = cc in omega arith)

@@ -69,6 +69,13 @@ module _ (s : List ℕ) (p : ℕ) where
           let e : k ≡ q = omega arith in
           f ∙ ap {B = Option ℕ} some e
 
+  pub first-absent : (n : ℕ) → NoOne s p n → firstOne s p n ≡ none
+  first-absent n h = go (firstOne s p n) refl
+    where
+      go : (o : Option ℕ) → firstOne s p n ≡ o → firstOne s p n ≡ none
+      go none f = f
+      go (some k) f = let r = first-where n k f in absurd (let z = h k (r .from) (r .within) in let y = r .one in omega arith)
+
   -- ---- the last one
 
   pub last-nowhere : (n : ℕ) → lastOne s p n ≡ none → NoOne s p n
@@ -121,6 +128,13 @@ module _ (s : List ℕ) (p : ℕ) where
           let high : k < q → ⊥ = λ l. let z = r .zeros q l (h .within) in omega arith in
           let e : k ≡ q = omega arith in
           f ∙ ap {B = Option ℕ} some e
+
+  pub last-absent : (n : ℕ) → NoOne s p n → lastOne s p n ≡ none
+  last-absent n h = go (lastOne s p n) refl
+    where
+      go : (o : Option ℕ) → lastOne s p n ≡ o → lastOne s p n ≡ none
+      go none f = f
+      go (some k) f = let r = last-where n k f in absurd (let z = h k (r .from) (r .within) in let y = r .one in omega arith)
 
   -- ---- the first one, by values: zeros make 0, and zeros and a one make 1
 

@@ -44,7 +44,7 @@ bits-mean s p n =
         entered = g;
         ok = value-lt s p n;
         stands = value-stands s p n (ltb-false (size s) (p + n) f);
-        next = omega arith;
+        stops = omega arith;
       },
     ))))
 
@@ -88,7 +88,7 @@ ue-at s p z g l one w =
       entered = g;
       ok = small;
       stands = subst (Stands s p) (ap (bitsOf (ueWidth v)) all ∙ ue-bits v small) (value-stands s p (ueWidth v) (omega arith));
-      next = omega arith;
+      stops = omega arith;
     }
 
 abbrev UeMean : List ℕ → ℕ → Ans ℕ → Type 0
@@ -160,7 +160,7 @@ se-took s p z q e = go (readUe s p) refl e
           entered = t .entered;
           ok = in-range z (omega arith);
           stands = subst (λ (i : ℕ). Stands s p (ueCode i)) (sym u) (t .stands);
-          next = qr ∙ t .next ∙ ap (λ (i : ℕ). p + length (ueCode i)) (sym u);
+          stops = qr ∙ t .stops ∙ ap (λ (i : ℕ). p + length (ueCode i)) (sym u);
         }
     go (no n) f h = absurd (let x : _≡_ {A = ℕ} 0 1 = cc in omega arith)
 
@@ -200,7 +200,7 @@ bit-took s p b q e = go (readBits s p 1) refl e
           entered = t .entered;
           ok = tt;
           stands = subst (Stands s p) code (t .stands);
-          next = sym qr ∙ t .next ∙ ap (λ (c : List ℕ). p + length c) code;
+          stops = sym qr ∙ t .stops ∙ ap (λ (c : List ℕ). p + length c) code;
         }
     go (no n) f h = absurd (let x : _≡_ {A = ℕ} 0 1 = cc in omega arith)
 
@@ -232,7 +232,7 @@ skip-means s p n =
     unless-by (SkipMeans s p n) no (entryAt s p) _ (λ k e. skipEntry (entry-why s p k e))
     (λ e. let g = entered s p e in
     cond-by (SkipMeans s p n) (ltb (size s) (p + n)) _ _ (λ t. skipShort g (ltb-true (size s) (p + n) t))
-    (λ f. record { entered = g; next = refl; within = ltb-false (size s) (p + n) f }))
+    (λ f. record { entered = g; stops = refl; within = ltb-false (size s) (p + n) f }))
 
 pub skip-took : (s : List ℕ) (p n : ℕ) (v : Unit) (q : ℕ) → skipped s p n ≡ got v q → Skipped s p n q
 skip-took s p n v q e = subst (SkipMeans s p n) e (skip-means s p n)

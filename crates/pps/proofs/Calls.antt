@@ -102,7 +102,7 @@ ids-stand s p n width units room ids q done =
     let two = back-stands s (p + length (ueCode 6)) (ueCode (length ids - 1)) (rowCode (bitsOf b) ids) one in
     let w = two .within in
     record {
-      ends = t .next ∙ omega (
+      ends = t .stops ∙ omega (
         arith,
         length-append (ueCode 6) (ueCode (length ids - 1) ++ rowCode (bitsOf b) ids),
         length-append (ueCode (length ids - 1)) (rowCode (bitsOf b) ids),

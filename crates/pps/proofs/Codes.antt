@@ -63,7 +63,7 @@ ok-codes : {A : Type 0} {code : A → List ℕ} {Ok Ok′ : A → Type 0} {read 
     → Reader code Ok read → Reader code Ok′ read
 ok-codes to back r =
     record {
-      took = λ s p a q g e. let t = r .took s p a q g e in record { entered = t .entered; ok = to a (t .ok); stands = t .stands; next = t .next };
+      took = λ s p a q g e. let t = r .took s p a q g e in record { entered = t .entered; ok = to a (t .ok); stands = t .stands; stops = t .stops };
       gives = λ s p a g ok st. r .gives s p a g (back a ok) st;
     }
 
@@ -77,7 +77,7 @@ give-codes : Reader {A = Unit} (λ u. []) (λ u. Unit) (λ s p. got tt p)
 give-codes =
     record {
       took = λ s p a q g e. let pq : p ≡ q = cc in let w = g .within in
-          record { entered = g; ok = tt; stands = record { within = omega arith; there = refl }; next = omega arith };
+          record { entered = g; ok = tt; stands = record { within = omega arith; there = refl }; stops = omega arith };
       gives = λ s p a g ok st. ap (λ (k : ℕ). got tt k) (omega arith);
     }
 
@@ -95,7 +95,7 @@ module _ {A : Type 0} {code : A → List ℕ} {Ok : A → Type 0} {f : List ℕ 
               let so = sound a q b e c in
               let t = r .took s p b e g (w ∙ so .0) in
               let ab : a ≡ b = let same = so .0 in cc in
-              record { entered = t .entered; ok = (t .ok, subst Good ab (so .1)); stands = t .stands; next = t .next }
+              record { entered = t .entered; ok = (t .ok, subst Good ab (so .1)); stands = t .stands; stops = t .stops }
           go (no k) w c = absurd (let z : _≡_ {A = ℕ} 0 1 = cc in omega arith)
 
 -- what a value was made of
@@ -118,9 +118,9 @@ module _ {A B C : Type 0} {codeA : A → List ℕ} {OkA : A → Type 0} {f : Lis
       second a q w (got b r) v h =
           let ta = rf .took s p a q en w in
           let wa = ta .stands .within in
-          let na = ta .next in
+          let na = ta .stops in
           let tb = rg a .took s q b r (record { small = en .small; within = omega arith }) v in
-          let nb = tb .next in
+          let nb = tb .stops in
           let ec : make a b ≡ c = cc in
           let re : r ≡ e = cc in
           let ecode : codeA a ++ codeB a b ≡ code c = sym (made-code a b (tb .ok)) ∙ ap code ec in
@@ -128,7 +128,7 @@ module _ {A B C : Type 0} {codeA : A → List ℕ} {OkA : A → Type 0} {f : Lis
             entered = en;
             ok = subst Ok ec (made-ok a b (ta .ok) (tb .ok));
             stands = subst (Stands s p) ecode (both-stand s p (codeA a) (codeB a b) (ta .stands) (subst (λ (k : ℕ). Stands s k (codeB a b)) na (tb .stands)));
-            next = omega (arith, length-append (codeA a) (codeB a b), ap length ecode);
+            stops = omega (arith, length-append (codeA a) (codeB a b), ap length ecode);
           }
       second a q w (no k) v h = absurd (let z : _≡_ {A = ℕ} 0 1 = cc in omega arith)
 
@@ -162,7 +162,7 @@ row-codes {A} {code} {Ok} {field} r zero = record { took = took; gives = gives }
   where
     took : (s : List ℕ) (p : ℕ) (xs : List A) (q : ℕ) → Entered s p → got [] p ≡ got xs q → Took (rowCode code) (RowOk Ok 0) s p xs q
     took s p [] q g e = let pq : p ≡ q = cc in let w = g .within in
-        record { entered = g; ok = record { many = refl; each = tt }; stands = record { within = omega arith; there = refl }; next = omega arith }
+        record { entered = g; ok = record { many = refl; each = tt }; stands = record { within = omega arith; there = refl }; stops = omega arith }
     took s p (x ∷ xs) q g e = absurd (let z : _≡_ {A = ℕ} 0 1 = cc in omega arith)
 
     gives : (s : List ℕ) (p : ℕ) (xs : List A) → Entered s p → RowOk Ok 0 xs → Stands s p (rowCode code xs) → got [] p ≡ got xs (p + length (rowCode code xs))

@@ -11,7 +11,7 @@ use Rattle.desk.specs.Numbers.{most, anyOver, entryOf, badGeometry, done}
 use Rattle.desk.proofs.Entering.{entry-passed, entry-done, entry-long, entry-bad}
 use Rattle.bits.specs.Reading.{pastEnd, Entered, size as bitsIn}
 use Rattle.bits.proofs.Refusing.{not-past, is-past}
-use Rattle.bits.proofs.Entry.{enters}
+use Rattle.bits.proofs.Entry.{enters, neither}
 use Rattle.pps.specs.Rule.{mostUnits, badPicture, badGroupCount}
 use Rattle.pps.specs.Answer.{firstOf, entryFor}
 
@@ -32,10 +32,6 @@ module _ (s : List ℕ) (p room width size : ℕ) (badCount : Bool) where
   entry-then k e h bad b = rw (sym e ∙ h, b)
 
 -- ---- what passes them
-
-or-false : (a b : Bool) → (a || b) ≡ false → (a ≡ false) × (b ≡ false)
-or-false true b e = absurd (let z : _≡_ {A = ℕ} 0 1 = cc in omega arith)
-or-false false b e = (refl, e)
 
 first-zero : (a b : ℕ) → firstOf a b ≡ 0 → (a ≡ 0) × (b ≡ 0)
 first-zero zero b e = (refl, e)
@@ -60,10 +56,10 @@ unfolding entryFor badPicture
 passed s p room width size badCount e =
     let both = first-zero (entryOf (length s ∷ room ∷ 0 ∷ []) (pastEnd s p)) (cond (badPicture width size || badCount) badGeometry done) e in
     let few = entry-passed (length s ∷ room ∷ 0 ∷ []) (pastEnd s p) (both .0) in
-    let good = or-false (badPicture width size) badCount (not-bad (badPicture width size || badCount) (both .1)) in
-    let w = or-false (eqb width 0) _ (good .0) in
-    let z = or-false (eqb size 0) _ (w .1) in
-    let m = or-false (ltb mostUnits size) _ (z .1) in
+    let good = neither (badPicture width size) badCount (not-bad (badPicture width size || badCount) (both .1)) in
+    let w = neither (eqb width 0) _ (good .0) in
+    let z = neither (eqb size 0) _ (w .1) in
+    let m = neither (ltb mostUnits size) _ (z .1) in
     let nw = eqb-false width 0 (w .0) in
     let nz = eqb-false size 0 (z .0) in
     record {
@@ -79,7 +75,7 @@ passed s p room width size badCount e =
 -- 1 to 7 groups beside the first
 pub groups-few : (n : ℕ) → badGroupCount n ≡ false → (1 ≤ n) × (n ≤ 7)
 unfolding badGroupCount
-groups-few n e = let b = or-false (ltb n 1) (ltb 7 n) e in (ltb-false n 1 (b .0), ltb-false 7 n (b .1))
+groups-few n e = let b = neither (ltb n 1) (ltb 7 n) e in (ltb-false n 1 (b .0), ltb-false 7 n (b .1))
 
 -- so the reader of slice groups knows
 pub record GoodRead (s : List ℕ) (p width size n : ℕ) : Type 0 where

@@ -100,7 +100,7 @@ module _ (from : BitReader) (n units : ℕ) (s : List ℕ) (p : ℕ) (ids : List
 
     module _ (v : Unit) (e : ℕ) (there : skipped s q ((m + 1) * b) ≡ got v e) where
       all-there : q + (m + 1) * b ≤ size s
-      all-there = let t = skip-took s q ((m + 1) * b) v e there in let w = t .within in omega (arith, t .next)
+      all-there = let t = skip-took s q ((m + 1) * b) v e there in let w = t .within in omega (arith, t .stops)
 
       pub ids-fit : m + 1 ≤ length ids → IdsFit s q (m + 1) b ids
       ids-fit h = let w = known .narrow in record { entered = known .entered; bits = all-there; narrow = omega arith; room = h }

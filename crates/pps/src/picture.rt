@@ -9,7 +9,7 @@ use bits::BitReader;
 const MOST_UNITS: u32 = 36_864;
 
 impl Geometry {
-    pub fn bad(self) -> bool
+    pub(crate) fn bad(self) -> bool
         ensures { λ r. ⌜ r ≡ badPicture (self .«pic_width_in_mbs») (self .«pic_size_in_map_units») ⌝ }
     {
         let width = self.pic_width_in_mbs;
