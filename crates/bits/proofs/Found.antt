@@ -83,7 +83,8 @@ module _ (s : List ℕ) (p : ℕ) where
   last-nowhere zero h = λ i a b. absurd (let z : ⊥ = omega arith in z)
   last-nowhere (suc n) h = go (eqb (bitAt s (p + n)) 1) refl (last-nowhere n) h
     where
-      go : (b : Bool) → eqb (bitAt s (p + n)) 1 ≡ b → (lastOne s p n ≡ none → NoOne s p n) → cond b (some (p + n)) (lastOne s p n) ≡ none → NoOne s p (suc n)
+      go : (b : Bool) → eqb (bitAt s (p + n)) 1 ≡ b → (lastOne s p n ≡ none → NoOne s p n) → cond b (some (p + n)) (lastOne s p n) ≡ none
+          → NoOne s p (suc n)
       go false e ih k = no-more n (ih k) (eqb-false (bitAt s (p + n)) 1 e)
       go true e ih k = absurd (let z : _≡_ {A = ℕ} 0 1 = cc in omega arith)
 
@@ -92,7 +93,8 @@ module _ (s : List ℕ) (p : ℕ) where
   last-where zero q h = absurd (let z : _≡_ {A = ℕ} 0 1 = cc in omega arith)
   last-where (suc n) q h = go (eqb (bitAt s (p + n)) 1) refl (last-where n q) h
     where
-      go : (b : Bool) → eqb (bitAt s (p + n)) 1 ≡ b → (lastOne s p n ≡ some q → IsLast s p n q) → cond b (some (p + n)) (lastOne s p n) ≡ some q → IsLast s p (suc n) q
+      go : (b : Bool) → eqb (bitAt s (p + n)) 1 ≡ b → (lastOne s p n ≡ some q → IsLast s p n q) → cond b (some (p + n)) (lastOne s p n) ≡ some q
+          → IsLast s p (suc n) q
       go true e ih k =
           let at : p + n ≡ q = cc in
           record {

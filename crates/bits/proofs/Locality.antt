@@ -70,7 +70,8 @@ codes-local {A} {code} {Ok} {read} r =
       again = again;
     }
   where
-    again : (s : List ℕ) (p : ℕ) (a : A) (q : ℕ) (t : List ℕ) (p′ : ℕ) → read s p ≡ got a q → SameBits s p t p′ (q - p) → read t p′ ≡ got a (p′ + (q - p))
+    again : (s : List ℕ) (p : ℕ) (a : A) (q : ℕ) (t : List ℕ) (p′ : ℕ) → read s p ≡ got a q → SameBits s p t p′ (q - p)
+        → read t p′ ≡ got a (p′ + (q - p))
     again s p a q t p′ e b =
         let k = r .took s p a q e in
         let len : q - p ≡ length (code a) = omega (arith, k .stops) in
@@ -103,7 +104,8 @@ skip-local n =
       again = again;
     }
   where
-    again : (s : List ℕ) (p : ℕ) (v : Unit) (q : ℕ) (t : List ℕ) (p′ : ℕ) → skipped s p n ≡ got v q → SameBits s p t p′ (q - p) → skipped t p′ n ≡ got v (p′ + (q - p))
+    again : (s : List ℕ) (p : ℕ) (v : Unit) (q : ℕ) (t : List ℕ) (p′ : ℕ) → skipped s p n ≡ got v q → SameBits s p t p′ (q - p)
+        → skipped t p′ n ≡ got v (p′ + (q - p))
     again s p v q t p′ e b =
         let k = skip-took s p n v q e .stops in
         let w = b .within in
@@ -162,6 +164,7 @@ then-local {A} {B} {f} {g} l m = record { grows = grows; within = within; again 
             let cut : r - p ≡ (r - q) + (q - p) = omega arith in
             let at : p + (q - p) ≡ q = omega arith in
             let one = l .again s p a q t p′ h (same-front s p t p′ (q - p) (r - p) (omega arith) w) in
-            let rest = subst (λ (i : ℕ). SameBits s i t (p′ + (q - p)) (r - q)) at (same-rest s p t p′ (q - p) (r - q) (subst (SameBits s p t p′) cut w)) in
+            let rest = subst (λ (i : ℕ). SameBits s i t (p′ + (q - p)) (r - q)) at
+            (same-rest s p t p′ (q - p) (r - q) (subst (SameBits s p t p′) cut w)) in
             simp one (m a .again s q b r t (p′ + (q - p)) k rest ∙ ap (λ (i : ℕ). got b i) (omega arith))
         go (no n) h k = absurd (let z : _≡_ {A = ℕ} 0 1 = cc in omega arith)

@@ -142,7 +142,8 @@ after-in s k e l pos small h at =
       zeros =
           ap (valueAt s e) (omega arith) ∙ value-split s e t n
           ∙ ap₂ (λ (x y : ℕ). x * 2 ^ n + y) z (ap (λ (q : ℕ). valueAt s q n) at ∙ h) ∙ omega arith;
-      one = λ _. ap (bitAt s) one-at ∙ sym (value-one s (8 * k + (7 - t))) ∙ value-in-byte s k (7 - t) 1 t (omega arith) ∙ trailing-one 32 b pos (omega arith);
+      one = λ _. ap (bitAt s) one-at ∙ sym (value-one s (8 * k + (7 - t))) ∙ value-in-byte s k (7 - t) 1 t (omega arith)
+          ∙ trailing-one 32 b pos (omega arith);
     }
 
 pub after-none : (s : List ℕ) → valueAt s 0 (size s - 0) ≡ 0 → AfterLast s 0
@@ -186,7 +187,8 @@ finish-here missing s p e a h = simp (last-after s p e a (omega arith), eq-eqb (
 pub finish-behind : (missing : ℕ) (s : List ℕ) (p e : ℕ) → AfterLast s e → p + 1 < e → finishFrom missing p (lastOne s p (size s - p)) ≡ 6
 finish-behind missing s p e a h = simp (last-after s p e a (omega arith), ne-eqb (e - 1) p (omega arith))
 
-pub finish-missing : (missing : ℕ) (s : List ℕ) (p e : ℕ) → AfterLast s e → p ≤ size s → e ≤ p → finishFrom missing p (lastOne s p (size s - p)) ≡ missing
+pub finish-missing : (missing : ℕ) (s : List ℕ) (p e : ℕ) → AfterLast s e → p ≤ size s → e ≤ p
+    → finishFrom missing p (lastOne s p (size s - p)) ≡ missing
 finish-missing missing s p e a h l = simp (last-before s p e a l h)
 
 pub finish-not-here : (s : List ℕ) (p e : ℕ) → AfterLast s e → p ≤ size s → (p + 1 ≡ e → ⊥) → finishFrom 6 p (lastOne s p (size s - p)) ≡ 6

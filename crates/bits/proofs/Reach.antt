@@ -12,7 +12,8 @@ use Rattle.desk.specs.Numbers.{most, entryOf}
 use Rattle.desk.proofs.Entering.{entry-long}
 use Rattle.bits.specs.Rule.{bitAt, valueAt, firstOne, lastOne, topOf}
 use Rattle.bits.specs.Step.{wrote, kept, writer, stored, bytesOf}
-use Rattle.bits.specs.Answer.{got, no, told, denied, pastEnd, badWriter, readBits, readBit, readUe, readSe, skipped, hasMore, finishRbsp, finishSei, mapped, wholeBytes, writeBits, writeBit, writeUe, writeSe, writeTrailing}
+use Rattle.bits.specs.Answer.{got, no, told, denied, pastEnd, badWriter, readBits, readBit, readUe, readSe, skipped, hasMore}
+use Rattle.bits.specs.Answer.{finishRbsp, finishSei, mapped, wholeBytes, writeBits, writeBit, writeUe, writeSe, writeTrailing}
 
 -- ---- 1
 

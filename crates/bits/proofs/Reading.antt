@@ -17,7 +17,8 @@ use lib.Pow.{pow-pos, pow-mono}
 use Rattle.desk.proofs.Choice.{cond-by}
 use Rattle.bits.specs.Rule.{size, valueAt, firstOne, bitsOf, prefixOf, ueCode, Stands, URange, UeRange, signedOf, unsignedOf, seCode, SeRange}
 use Rattle.bits.specs.Answer.{Ans, got, no, entryAt, ueWidth, readBits, readUe, ueFrom, asSigned, readSe, asBool, readBit, skipped}
-use Rattle.bits.specs.Reading.{Entered, bitCode, AnyBit, Took, ReadsCodes, WhyBits, bitsEntry, bitsWide, bitsShort, OneAfter, WhyUe, ueEntry, ueNone, ueMany, ueShort, Skipped, WhySkip, skipEntry, skipShort}
+use Rattle.bits.specs.Reading.{Entered, bitCode, AnyBit, Took, ReadsCodes, WhyBits, bitsEntry, bitsWide, bitsShort, OneAfter, WhyUe}
+use Rattle.bits.specs.Reading.{ueEntry, ueNone, ueMany, ueShort, Skipped, WhySkip, skipEntry, skipShort}
 use Rattle.bits.proofs.Entry.{entered, enters, entry-why, unless-by}
 use Rattle.bits.proofs.Value.{value-lt, value-split}
 use Rattle.bits.proofs.Ones.{first-is, top-one}
@@ -56,7 +57,8 @@ bits-width s p n v q e = subst (BitsMean s p n) e (bits-mean s p n) .0
 pub bits-refused : (s : List ℕ) (p n k : ℕ) → readBits s p n ≡ no k → WhyBits s p n k
 bits-refused s p n k e = subst (BitsMean s p n) e (bits-mean s p n)
 
-bits-give : (n : ℕ) → n ≤ 32 → (s : List ℕ) (p v : ℕ) → Entered s p → v < 2 ^ n → Stands s p (bitsOf n v) → readBits s p n ≡ got v (p + length (bitsOf n v))
+bits-give : (n : ℕ) → n ≤ 32 → (s : List ℕ) (p v : ℕ) → Entered s p → v < 2 ^ n → Stands s p (bitsOf n v)
+    → readBits s p n ≡ got v (p + length (bitsOf n v))
 unfolding readBits
 bits-give n h s p v g l c =
     let long = length-bits-of n v in
@@ -206,8 +208,10 @@ bit-took s p b q e = go (readBits s p 1) refl e
 
 bit-give : (s : List ℕ) (p : ℕ) (b : Bool) → Entered s p → AnyBit b → Stands s p (bitCode b) → readBit s p ≡ got b (p + length (bitCode b))
 unfolding readBit
-bit-give s p true g u c = simp (bits-codes 1 (omega arith) .gives s p 1 g (omega arith) (subst (Stands s p) (sym (bits-of-bit 1 (omega arith))) c), length-bits-of 1 1)
-bit-give s p false g u c = simp (bits-codes 1 (omega arith) .gives s p 0 g (omega arith) (subst (Stands s p) (sym (bits-of-bit 0 (omega arith))) c), length-bits-of 1 0)
+bit-give s p true g u c =
+    simp (bits-codes 1 (omega arith) .gives s p 1 g (omega arith) (subst (Stands s p) (sym (bits-of-bit 1 (omega arith))) c), length-bits-of 1 1)
+bit-give s p false g u c =
+    simp (bits-codes 1 (omega arith) .gives s p 0 g (omega arith) (subst (Stands s p) (sym (bits-of-bit 0 (omega arith))) c), length-bits-of 1 0)
 
 pub bit-codes : ReadsCodes bitCode AnyBit readBit
 bit-codes = record { took = bit-took; gives = bit-give }

@@ -1,6 +1,5 @@
--- Each number of a reader is given where its reason holds (proofs/Reading.antt: and only there); and which number is left to a caller of `read` that has
--- made the entry checks itself.
--- Assumes nothing.
+-- Each number of a reader is given where its reason holds (proofs/Reading.antt: and only there); and which number is left to a caller of
+-- `read` that has made the entry checks itself. Assumes nothing.
 use mathlib.Core.Path.{_≡_, refl, ap, _∙_}
 use mathlib.Core.List.{List}
 use mathlib.Core.Bool.{false, true}
@@ -10,7 +9,8 @@ use native.Mathlib.Omega.{arith}
 use borrow.Author.Tests.{lt-ltb, le-ltb, ltb-false}
 use Rattle.bits.specs.Rule.{size, firstOne}
 use Rattle.bits.specs.Answer.{Ans, no, unless, entryAt, pastEnd, readBits, readBit, readUe, readSe, skipped}
-use Rattle.bits.specs.Reading.{Entered, WhyEntry, long, past, WhyBits, bitsEntry, bitsWide, bitsShort, OneAfter, WhyUe, ueEntry, ueNone, ueMany, ueShort, WhySkip, skipEntry, skipShort}
+use Rattle.bits.specs.Reading.{Entered, WhyEntry, long, past, WhyBits, bitsEntry, bitsWide, bitsShort, OneAfter, WhyUe, ueEntry}
+use Rattle.bits.specs.Reading.{ueNone, ueMany, ueShort, WhySkip, skipEntry, skipShort}
 use Rattle.bits.proofs.Entry.{enters, why-entry}
 use Rattle.bits.proofs.Ones.{first-none, first-is}
 use Rattle.bits.proofs.Reading.{bits-refused}

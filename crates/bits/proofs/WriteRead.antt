@@ -14,7 +14,8 @@ use Rattle.bits.specs.Rule.{size, bitAt, valueAt, lastOne, bits, bitsOf,
 use Rattle.bits.specs.Step.{Good}
 use Rattle.bits.specs.Answer.{writeTrailing, Writes, newWriter, finishRbsp}
 use Rattle.bits.specs.Reading.{Entered}
-use Rattle.bits.specs.Writing.{content, Appends, WriteMeans, Field, u, flag, ue, se, codeOf, HasCode, without, ReadsField, WritesFields, nothing, one-more, ReadBack, end, then}
+use Rattle.bits.specs.Writing.{content, Appends, WriteMeans, Field, u, flag, ue, se, codeOf, HasCode, without, ReadsField}
+use Rattle.bits.specs.Writing.{WritesFields, nothing, one-more, ReadBack, end, then}
 use Rattle.bits.specs.declared.BitWriter.{BitWriter}
 use Rattle.bits.specs.declared.Put.the-variants.{Done}
 use Rattle.bits.proofs.Back.{write-answer}
@@ -118,7 +119,8 @@ closed {o} {o′} {st} {st′} g a =
       length-append (content o st) (trailingBits c),
       length-replicate {A = ℕ} (7 - c) 0,
     ) in
-    sym (append-nil (bits (take w′ o′))) ∙ ap (λ (b : List ℕ). bits (take w′ o′) ++ b) (sym (ap (λ (k : ℕ). bitsOf k (st′ .pending)) none ∙ no-bits (st′ .pending))) ∙ a .grown
+    sym (append-nil (bits (take w′ o′)))
+    ∙ ap (λ (b : List ℕ). bits (take w′ o′) ++ b) (sym (ap (λ (k : ℕ). bitsOf k (st′ .pending)) none ∙ no-bits (st′ .pending))) ∙ a .grown
 
 -- what was written into a room from a new writer, with trailing bits behind it, reads back from place 0, and ends where the trailing bits are
 pub write-read : {o o₁ o₂ : List ℕ} {st₁ st₂ : BitWriter} {fs : List Field} → WritesFields o newWriter fs o₁ st₁
