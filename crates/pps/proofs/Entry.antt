@@ -19,17 +19,18 @@ first-nonzero : (a b : ℕ) → (a ≡ 0 → ⊥) → firstOf a b ≡ a
 first-nonzero zero b h = absurd (h refl)
 first-nonzero (suc a) b h = refl
 
-module _ (s : List ℕ) (p room width size : ℕ) (badCount : Bool) where
+module _ (s : List ℕ) (p room width size : ℕ) (badCount past : Bool) (is : past ≡ pastEnd s p) (k : ℕ)
+(e : k ≡ entryOf (length s ∷ room ∷ 0 ∷ []) past) where
   -- 1 and 2 come first
-  pub entry-first : (k : ℕ) → k ≡ entryOf (length s ∷ room ∷ 0 ∷ []) (pastEnd s p) → (k ≡ 0 → ⊥) → k ≡ entryFor s p room width size badCount
+  pub entry-first : (k ≡ 0 → ⊥) → k ≡ entryFor s p room width size badCount
   unfolding entryFor
-  entry-first k e h = rw (← e) (sym (first-nonzero k _ h))
+  entry-first h = rw (← is, ← e) (sym (first-nonzero k _ h))
 
   -- and then 11
-  pub entry-then : (k : ℕ) → k ≡ entryOf (length s ∷ room ∷ 0 ∷ []) (pastEnd s p) → k ≡ 0 → (bad : Bool) → (badPicture width size || badCount) ≡ bad
+  pub entry-then : k ≡ 0 → (bad : Bool) → (badPicture width size || badCount) ≡ bad
       → cond bad badGeometry done ≡ entryFor s p room width size badCount
   unfolding entryFor
-  entry-then k e h bad b = rw (sym e ∙ h, b)
+  entry-then h bad b = rw (← is, sym e ∙ h, b)
 
 -- ---- what passes them
 
@@ -85,11 +86,10 @@ pub record GoodRead (s : List ℕ) (p width size n : ℕ) : Type 0 where
   pub some : 1 ≤ n
   pub few : n ≤ 7
 
-pub good-read : (s : List ℕ) (p room width size n : ℕ) (badCount : Bool) (k : ℕ) → badCount ≡ badGroupCount n → k ≡ entryFor s p room width size badCount → k ≡ 0
-    → GoodRead s p width size n
-good-read s p room width size n badCount k eb e z =
-    let good = passed s p room width size badCount (sym e ∙ z) in
-    let count = groups-few n (sym eb ∙ good .count) in
+pub good-read : (s : List ℕ) (p room width size n : ℕ) → entryFor s p room width size (badGroupCount n) ≡ 0 → GoodRead s p width size n
+good-read s p room width size n e =
+    let good = passed s p room width size (badGroupCount n) e in
+    let count = groups-few n (good .count) in
     record { entered = good .entered; wide = good .wide; limit = good .limit; some = count .0; few = count .1 }
 
 -- ---- each number, given exactly where document 01 says

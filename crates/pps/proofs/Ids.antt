@@ -99,7 +99,8 @@ module _ (b : ℕ) (narrow : b ≤ 32) where
       go (no j) f ih = ap no (bits-number s p g j b narrow f)
 
 -- a row of ids that came to its end
-pub ids-put : (b count : ℕ) (s : List ℕ) (p : ℕ) (ids : List ℕ) (i : ℕ) (xs : List ℕ) (at : ℕ) → RowSo (λ s p. readBits s p b) s count p ids i xs at → count ≤ i
+pub ids-put : (b count : ℕ) (s : List ℕ) (p : ℕ) (ids : List ℕ) (i : ℕ) (xs : List ℕ) (at : ℕ)
+    → RowSo (λ s p. readBits s p b) s count p ids i xs at → count ≤ i
     → IdsPut s p count b ids xs at
 ids-put b count s p ids i xs at so h =
     let e : i ≡ count = omega (arith, so .within) in
