@@ -1,5 +1,5 @@
--- What a read of slice groups says once it came to its end: where it stopped, on which bits it depends, and what the id buffer holds. Assumes
--- nothing.
+-- What a read of slice groups says once it came to its end: where it stopped, on which bits it depends, and what the id buffer holds.
+-- Assumes nothing.
 use mathlib.Core.Path.{_≡_, refl, _∙_, subst}
 use mathlib.Core.List.{List, [], _∷_, _++_}
 use mathlib.Core.Bool.{Bool, true, false, cond}
@@ -67,8 +67,8 @@ module _ (s : List ℕ) (p n width units room : ℕ) (f : Fields) (q : ℕ) wher
         let w = same .within in
         let here = picture in
         simp (
-          entry-passes t p′ room width units (badGroupCount n) (record { small = same .small; within = omega arith }) (here .ids) (here .picture)
-          (here .count),
+          entry-passes t p′ room width units (badGroupCount n) (record { small = same .small; within = omega arith })
+              (here .ids) (here .picture) (here .count),
           groups-local width units n .again s p f q t p′ (came done .rule) same,
           le-ltb room (length (idsIn f)) (came done .fits),
         )

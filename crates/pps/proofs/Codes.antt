@@ -87,7 +87,7 @@ give-codes =
 
 -- a field that is checked once it is read
 module _ {A : Type 0} {code : A → List ℕ} {Ok : A → Type 0} {f : List ℕ → ℕ → Ans A} (check : A → ℕ → Ans A) (Good : A → Type 0)
-(r : Reader code Ok f)
+    (r : Reader code Ok f)
     (sound : (a : A) (q : ℕ) (b : A) (e : ℕ) → check a q ≡ got b e → (got a q ≡ got b e) × Good a)
     (complete : (a : A) (q : ℕ) → Good a → check a q ≡ got a q) where
   checked-codes : Reader code (λ a. Ok a × Good a) (λ s p. andThen (f s p) check)
@@ -234,8 +234,11 @@ module _ (width units : ℕ) (few : units ≤ mostUnits) where
 
   check-complete : (rect : SliceRect) (q : ℕ) → RectOk width units rect → checkedRect width units rect q ≡ got rect q
   check-complete rect q ok =
-      simp (le-ltb (rect .«bottom_right») (rect .«top_left») (ok .order), ok .within, le-ltb (rect .«bottom_right» % width)
-      (rect .«top_left» % width) (ok .columns))
+      simp (
+        le-ltb (rect .«bottom_right») (rect .«top_left») (ok .order),
+        ok .within,
+        le-ltb (rect .«bottom_right» % width) (rect .«top_left» % width) (ok .columns),
+      )
 
   rectangle-codes : Reader rectCode (RectOk width units) (rectangle width units)
   unfolding rectangle
@@ -323,8 +326,13 @@ module _ (width units : ℕ) (few : units ≤ mostUnits) where
         parts (changing u flag rate) ok = absurd (let z : ⊥ = omega (arith, ok .1, ok .0 .to) in z)
         parts (explicit ids) ok =
             let i = ok .0 in
-            record { a = length ids - 1; b = ids; is = refl; okA = omega
-            (arith, i .some, i .few); okB = record { many = omega (arith, i .some); each = i .each } }
+            record {
+              a = length ids - 1;
+              b = ids;
+              is = refl;
+              okA = omega (arith, i .some, i .few);
+              okB = record { many = omega (arith, i .some); each = i .each };
+            }
 
     -- no fields have a type over 6
     rest-arm : (t : ℕ) → 6 < t → Arm t (λ s p. no 12)
@@ -353,7 +361,7 @@ module _ (width units : ℕ) (few : units ≤ mostUnits) where
         over t a b = omega arith
 
     whole-codes : Reader (groupsCode n) (FieldsOk n width units)
-    (λ s p. andThen (readUe s p) (λ t q. andThen (byType n width units t s q) (λ f r. got f r)))
+        (λ s p. andThen (readUe s p) (λ t q. andThen (byType n width units t s q) (λ f r. got f r)))
     whole-codes =
         chain {OkB = λ t f. Of t f} (λ t f. f) (groupsCode n) (FieldsOk n width units) (of-codes ue-codes) by-type-codes
         (λ t f ok. ap (λ (k : ℕ). ueCode k ++ fieldsCode n f) (ok .1)) (λ t f a ok. ok .0)
@@ -375,8 +383,8 @@ module _ (width units : ℕ) (few : units ≤ mostUnits) where
     whole s p (got t q) = again (byType n width units t s q)
     whole s p (no k) = refl
 
-    -- THE LAW: what is read are the fields in range whose code stands there, up to its end; and where the code of fields in range stands, they are
-    -- read
+    -- THE LAW: what is read are the fields in range whose code stands there, up to its end; and where the code of fields in range stands,
+    -- they are read
     pub groups-codes : ReadsCodes (groupsCode n) (FieldsOk n width units) (sliceGroups n width units)
     unfolding sliceGroups
     groups-codes =

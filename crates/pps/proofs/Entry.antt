@@ -20,7 +20,7 @@ first-nonzero zero b h = absurd (h refl)
 first-nonzero (suc a) b h = refl
 
 module _ (s : List ℕ) (p room width size : ℕ) (badCount past : Bool) (is : past ≡ pastEnd s p) (k : ℕ)
-(e : k ≡ entryOf (length s ∷ room ∷ 0 ∷ []) past) where
+    (e : k ≡ entryOf (length s ∷ room ∷ 0 ∷ []) past) where
   -- 1 and 2 come first
   pub entry-first : (k ≡ 0 → ⊥) → k ≡ entryFor s p room width size badCount
   unfolding entryFor

@@ -44,9 +44,13 @@ unfolding groupsOf
 no-picture n width units h = simp (entry-11 [] 0 0 width units (badGroupCount n) (start [] (lit≤ tt)) (lit≤ tt) h)
 
 -- each cause of 11: width 0, size 0, size no multiple of the width, size over the limit; n of 0 and of 8
-pub reach-11 : (groupsOf [] 0 1 0 1 0 ≡ no 11) × (groupsOf [] 0 1 1 0 0 ≡ no 11) × (groupsOf [] 0 1 2 3 0 ≡ no 11)
+pub reach-11 :
+    (groupsOf [] 0 1 0 1 0 ≡ no 11)
+    × (groupsOf [] 0 1 1 0 0 ≡ no 11)
+    × (groupsOf [] 0 1 2 3 0 ≡ no 11)
     × (groupsOf [] 0 1 1 36865 0 ≡ no 11)
-    × (groupsOf [] 0 0 1 1 0 ≡ no 11) × (groupsOf [] 0 8 1 1 0 ≡ no 11)
+    × (groupsOf [] 0 0 1 1 0 ≡ no 11)
+    × (groupsOf [] 0 8 1 1 0 ≡ no 11)
 unfolding badPicture badGroupCount
 reach-11 =
     (no-picture 1 0 1 refl, no-picture 1 1 0 refl, no-picture 1 2 3 refl, no-picture 1 1 36865 refl, no-picture 0 1 1 refl, no-picture 8 1 1 refl)
@@ -158,10 +162,16 @@ rect-at-0 : (s : List ℕ) (width units : ℕ) → length s ≤ most → badPict
 rect-at-0 s width units h b = rect-fields s 0 width units (entry-passes s 0 0 width units false (start s h) (lit≤ tt) b refl)
 
 -- place 1 of no bytes; each cause of 11; no bytes; 32 zeros and a one; rectangle 1 to 0; rectangle 0 to 2 in a picture of 1; rectangle 0 to 1
-pub reach-rect : (rectOf [] 1 1 1 ≡ no 2) × (rectOf [] 0 0 1 ≡ no 11) × (rectOf [] 0 1 0 ≡ no 11) × (rectOf [] 0 2 3 ≡ no 11)
+pub reach-rect :
+    (rectOf [] 1 1 1 ≡ no 2)
+    × (rectOf [] 0 0 1 ≡ no 11)
+    × (rectOf [] 0 1 0 ≡ no 11)
+    × (rectOf [] 0 2 3 ≡ no 11)
     × (rectOf [] 0 1 36865 ≡ no 11)
-    × (rectOf [] 0 1 1 ≡ no 4) × (rectOf (0 ∷ 0 ∷ 0 ∷ 0 ∷ 0x80 ∷ []) 0 1 1 ≡ no 5) × (rectOf (0x50 ∷ []) 0 1 1 ≡ no 14) ×
-    (rectOf (0xB0 ∷ []) 0 1 1 ≡ no 15)
+    × (rectOf [] 0 1 1 ≡ no 4)
+    × (rectOf (0 ∷ 0 ∷ 0 ∷ 0 ∷ 0x80 ∷ []) 0 1 1 ≡ no 5)
+    × (rectOf (0x50 ∷ []) 0 1 1 ≡ no 14)
+    × (rectOf (0xB0 ∷ []) 0 1 1 ≡ no 15)
     × (rectOf (0xA0 ∷ []) 0 1 1 ≡ got (record { «top_left» = 0; «bottom_right» = 1 }) 4)
 unfolding badPicture rectangle bottomRightOk
 reach-rect = (
@@ -183,7 +193,11 @@ past-end : readUe [] 1 ≡ no 2
 past-end = ue-refuse (ueEntry (past (lit≤ tt) (lit< tt)))
 
 -- 16,777,217 bytes; place 1 of no bytes; no bytes; 32 zeros and a one; 32; 31
-pub reach-idx : (numRefIdx tooMany 0 ≡ no 1) × (numRefIdx [] 1 ≡ no 2) × (numRefIdx [] 0 ≡ no 4) × (numRefIdx (0 ∷ 0 ∷ 0 ∷ 0 ∷ 0x80 ∷ []) 0 ≡ no 5)
+pub reach-idx :
+    (numRefIdx tooMany 0 ≡ no 1)
+    × (numRefIdx [] 1 ≡ no 2)
+    × (numRefIdx [] 0 ≡ no 4)
+    × (numRefIdx (0 ∷ 0 ∷ 0 ∷ 0 ∷ 0x80 ∷ []) 0 ≡ no 5)
     × (numRefIdx (0x04 ∷ 0x20 ∷ []) 0 ≡ no 18)
     × (numRefIdx (0x04 ∷ 0x00 ∷ []) 0 ≡ got 31 11)
 unfolding ueBelow

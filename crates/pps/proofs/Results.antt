@@ -201,6 +201,11 @@ module _ (s : List ℕ) (from : BitReader) (n w z : ℕ) (ids : List ℕ) (r : S
       unfolding byType
       type-rest l six er =
           by-type (no 12) ids
-          (simp (ne-eqb t 0 (λ e. omega arith), ne-eqb t 1 (λ e. omega arith), ne-eqb t 2 (λ e. omega arith), lt-leb t 5
-          (omega arith), ne-eqb t 6 six))
+          (simp (
+            ne-eqb t 0 (λ e. omega arith),
+            ne-eqb t 1 (λ e. omega arith),
+            ne-eqb t 2 (λ e. omega arith),
+            lt-leb t 5 (omega arith),
+            ne-eqb t 6 six,
+          ))
           (no-ids from n ids r (no 12) refl er)
