@@ -7,6 +7,7 @@ use lib.ListN.{length, take, drop}
 use lib.IntN.{ℤ}
 use Rattle.desk.specs.Numbers.{most, tooLong, badState, badWidth, noCode, noRoom}
 use Rattle.bits.specs.Rule.{bits, bitsOf, URange, ueCode, UeRange, seCode, SeRange}
+pub use Rattle.bits.specs.Rule.{trailingBits}
 pub use Rattle.bits.specs.Step.{Good, Wrote, wrote, kept, writer}
 use Rattle.bits.specs.Answer.{got, readBits, readBit, readUe, readSe}
 pub use Rattle.bits.specs.Answer.{newWriter, badWriter, Writes, outcome, wroteNumber, putBack, roomBack}
