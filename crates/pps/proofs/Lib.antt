@@ -5,8 +5,7 @@ pub mod Below
 pub mod Entry
 pub mod Results
 pub mod Local
-pub mod Unique
-pub mod Concrete
+pub mod Back
 pub mod Sheets
 pub mod Reach
 pub mod Codes

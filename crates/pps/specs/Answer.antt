@@ -1,5 +1,5 @@
--- WHAT EACH CALL ANSWERS, for everything that goes in, refusals included; and, for each call, the record that ties its result, and the lent memory as it
--- returns, to that answer.
+-- WHAT EACH CALL ANSWERS, for everything that goes in, refusals included; and, for each call, the contract that ties its result, and the lent
+-- memory as it returns, to that answer.
 use Prim.Native.Nat.{ℕ, zero, suc, _-_}
 use mathlib.Core.Path.{_≡_}
 use mathlib.Core.List.{List, [], _∷_}
@@ -7,7 +7,7 @@ use mathlib.Core.Bool.{Bool, false, cond, _||_}
 use lib.ListN.{length, replicate}
 use lib.Dec.{ltb, eqb}
 use Rattle.desk.specs.Numbers.{done, noRoom, badGeometry, entryOf}
-use Rattle.bits.specs.Reading.{Ans, got, no, andThen, pastEnd}
+use Rattle.bits.specs.Reading.{Ans, got, no, andThen, unless, readerAt, backBy, pastEnd}
 use Rattle.bits.specs.declared.BitReader.{BitReader}
 use Rattle.pps.specs.declared.Geometry.{Geometry}
 use Rattle.pps.specs.declared.SliceRect.{SliceRect}
@@ -19,7 +19,8 @@ use Rattle.pps.specs.declared.SliceGroup.{SliceGroup}
 use Rattle.pps.specs.declared.SliceGroup.the-variants.{Interleaved, Dispersed, ForegroundAndLeftover, Changing, ExplicitAssignment}
 use Rattle.pps.specs.declared.SliceGroups.{SliceGroups}
 use Rattle.pps.specs.declared.SliceGroupRead.{SliceGroupRead}
-use Rattle.pps.specs.Rule.{badPicture, badGroupCount, rectangle, Fields, interleaved, dispersed, foreground, changing, explicit, sliceGroups}
+use Rattle.pps.specs.Rule.{badPicture, badGroupCount, rectangle, Fields, interleaved, dispersed, foreground, changing, explicit}
+use Rattle.pps.specs.Rule.{rectangles, groupIds, sliceGroups}
 use Rattle.desk.specs.Room.{written}
 
 -- ---- the entry checks: 1, 2, 11
@@ -34,28 +35,29 @@ unfoldable pub entryFor : List ℕ → ℕ → ℕ → ℕ → ℕ → Bool → 
 entryFor s p room width size badCount =
     firstOf (entryOf (length s ∷ room ∷ 0 ∷ []) (pastEnd s p)) (cond (badPicture width size || badCount) badGeometry done)
 
--- a number of the entry checks, unless it is 0
-abbrev pub behind : {A : Type 0} → ℕ → Ans A → Ans A
-behind zero x = x
-behind (suc k) x = no (suc k)
+-- of a call that is given a reader and a picture
+abbrev pub entryBy : List ℕ → BitReader → ℕ → Geometry → Bool → ℕ
+entryBy s from room g = entryFor s (from .at .0) room (g .«pic_width_in_mbs») (g .«pic_size_in_map_units»)
 
 -- ---- a rectangle
 
 unfoldable pub rectOf : List ℕ → ℕ → ℕ → ℕ → Ans SliceRect
-rectOf s p width size = behind (entryFor s p 0 width size false) (rectangle width size s p)
+rectOf s p width size = unless no (entryFor s p 0 width size false) (rectangle width size s p)
 
 abbrev pub rectAnswer : Rect → Ans SliceRect
 rectAnswer (Value v r) = got v (r .at .0)
 rectAnswer (Refused k r) = no k
 
--- a refusal gives the reader back as it came
-abbrev pub RectSame : BitReader → Rect → Type 0
-RectSame from (Value v r) = Unit
-RectSame from (Refused k r) = r ≡ from
+-- and back. A refusal gives the reader back as it came.
+abbrev pub rectBack : BitReader → Ans SliceRect → Rect
+rectBack = backBy Value Refused
 
-pub record ReadsRect (from : BitReader) (r : Rect) (a : Ans SliceRect) : Type 0 where
-  pub answers : rectAnswer r ≡ a
-  pub same : RectSame from r
+abbrev pub ReadsRect : BitReader → Rect → Ans SliceRect → Type 0
+ReadsRect from r a = r ≡ rectBack from a
+
+-- the contract
+abbrev pub ReadsRectIn : List ℕ → BitReader → Geometry → Rect → Type 0
+ReadsRectIn s from g r = ReadsRect from r (rectOf s (from .at .0) (g .«pic_width_in_mbs») (g .«pic_size_in_map_units»))
 
 -- ---- slice groups
 
@@ -72,7 +74,7 @@ roomed room x = andThen x (λ f q. cond (ltb room (length (idsIn f))) (no noRoom
 
 unfoldable pub groupsOf : List ℕ → ℕ → ℕ → ℕ → ℕ → ℕ → Ans Fields
 groupsOf s p n width size room =
-    behind (entryFor s p room width size (badGroupCount n)) (roomed room (sliceGroups n width size s p))
+    unless no (entryFor s p room width size (badGroupCount n)) (roomed room (sliceGroups n width size s p))
 
 -- the ids that are written
 abbrev pub idsGiven : Ans Fields → List ℕ
@@ -117,9 +119,6 @@ rectsOf (explicit ids) = noRects
 abbrev pub noGroups : SliceGroups
 noGroups = record { group = Interleaved; «num_slice_groups_minus1» = 0; «run_length_minus1» = noRuns; rectangles = noRects }
 
-abbrev pub readerAt : ℕ → BitReader
-readerAt q = record { at = record { 0 = q } }
-
 -- a read that came to its end
 abbrev pub whole : BitReader → SliceGroup → ℕ → List ℕ → List SliceRect → ℕ → SliceGroupRead
 whole at case n runs rects count =
@@ -142,6 +141,14 @@ resultOf from n (no k) = refusal from k
 pub record GroupsGiven (from : BitReader) (n : ℕ) (a : Ans Fields) (ids : List ℕ) (r : SliceGroupRead) (ids′ : List ℕ) : Type 0 where
   pub answers : r ≡ resultOf from n a
   pub memory : ids′ ≡ written ids (idsGiven a)
+
+-- what the reader of the rectangles, and that of the ids, are to give
+abbrev pub ReadsRectangles : List ℕ → BitReader → BitReader → ℕ → Geometry → SliceGroupRead → Type 0
+ReadsRectangles s from next n g r =
+    r ≡ resultOf from n (rectangles n (g .«pic_width_in_mbs») (g .«pic_size_in_map_units») s (next .at .0))
+
+abbrev pub ReadsIds : List ℕ → BitReader → BitReader → ℕ → ℕ → List ℕ → SliceGroupRead → List ℕ → Type 0
+ReadsIds s from next n size ids r ids′ = GroupsGiven from n (roomed (length ids) (groupIds n size s (next .at .0))) ids r ids′
 
 -- the contract
 abbrev pub ReadsGroups : List ℕ → BitReader → ℕ → Geometry → List ℕ → SliceGroupRead → List ℕ → Type 0
