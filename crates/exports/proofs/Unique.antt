@@ -6,7 +6,6 @@ use mathlib.Core.List.{List}
 use mathlib.Core.Option.{Option}
 use lib.IntN.{ℤ}
 use Rattle.desk.specs.Push.{Answer}
-use Rattle.rbsp.specs.declared.reader.ParseState.{ParseState}
 use Rattle.rbsp.specs.declared.writer.ByteWriter.{ByteWriter}
 use Rattle.rbsp.proofs.Unique.{read-push-one, write-push-one, decode-one}
 use Rattle.annexb.specs.declared.AnnexBReader.{AnnexBReader}
@@ -20,11 +19,11 @@ use Rattle.pps.specs.declared.Geometry.{Geometry}
 use Rattle.pps.specs.declared.SliceGroupRead.{SliceGroupRead}
 use Rattle.pps.specs.declared.SliceRect.{SliceRect}
 use Rattle.pps.proofs.Unique.{one-groups, one-rect}
-use Rattle.exports.specs.Fronts.{Fronts}
-use Rattle.exports.specs.Escaping.{FrontsRead, FrontsWrite, FrontsDecode}
+use Rattle.exports.specs.Fronts.{Fronts, lentAfter}
+use Rattle.exports.specs.Escaping.{readerOf, FrontsRead, FrontsWrite, FrontsDecode}
 use Rattle.exports.specs.Framing.{FrontsFrame}
 use Rattle.exports.specs.Bits.{FrontsBits, FrontsBit, FrontsMoved, FrontsSigned, signedValue, FrontsMore, FrontsAligned, FrontsPut, FrontsMapped, mappedValue, mappedNumber}
-use Rattle.exports.specs.Groups.{FrontsRect, FrontsGroups, groupsNumbers, groupNumbers, corners}
+use Rattle.exports.specs.Groups.{Arrays, arraysOf, FrontsRect, FrontsGroups, groupsNumbers}
 
 -- where two answers of the fronted call are one, and memory too (M), so are the numbers
 fronts : {R M : Type 0} {Call₁ Call₂ : R → Type 0} {numbers : R → List ℕ} {a₁ a₂ : List ℕ} → ((r₁ r₂ : R) → Call₁ r₁ → Call₂ r₂ → (r₁ ≡ r₂) × M) → Fronts Call₁ numbers a₁ → Fronts Call₂ numbers a₂ → (a₁ ≡ a₂) × M
@@ -36,8 +35,10 @@ fronts-alone {R} {Call} {numbers} one f g = f .told ∙ ap numbers (one (f .r) (
 
 -- ---- escaping and framing
 
-pub read-front-one : (s : ParseState) (chunk out out₁ out₂ a₁ a₂ : List ℕ) → FrontsRead s chunk out out₁ a₁ → FrontsRead s chunk out out₂ a₂ → (a₁ ≡ a₂) × (out₁ ≡ out₂)
-read-front-one s chunk out out₁ out₂ a₁ a₂ = fronts (λ r₁ r₂ p q. read-push-one s chunk out out₁ out₂ r₁ r₂ p q)
+pub read-front-one : (zeros skip : ℕ) (three : Bool) (chunk out out₁ out₂ a₁ a₂ : List ℕ)
+    → FrontsRead zeros skip three chunk out out₁ a₁ → FrontsRead zeros skip three chunk out out₂ a₂ → (a₁ ≡ a₂) × (out₁ ≡ out₂)
+read-front-one zeros skip three chunk out out₁ out₂ a₁ a₂ =
+    fronts (λ r₁ r₂ p q. read-push-one (readerOf zeros skip three) chunk out out₁ out₂ r₁ r₂ p q)
 
 pub write-front-one : (s : ByteWriter) (chunk out out₁ out₂ a₁ a₂ : List ℕ) → FrontsWrite s chunk out out₁ a₁ → FrontsWrite s chunk out out₂ a₂ → (a₁ ≡ a₂) × (out₁ ≡ out₂)
 write-front-one s chunk out out₁ out₂ a₁ a₂ = fronts (λ r₁ r₂ p q. write-push-one s chunk out out₁ out₂ r₁ r₂ p q)
@@ -81,15 +82,14 @@ mapped-front-one f g =
     let e = golomb-to-signed-one {x = f .r} {y = g .r} (f .call) (g .call) in
     (f .number-is ∙ ap mappedNumber e ∙ sym (g .number-is), f .value-is ∙ ap mappedValue e ∙ sym (g .value-is))
 
--- ---- slice groups: the ids and the four arrays
+-- ---- slice groups: the ids, the answer and the three arrays beside it
 
-pub groups-front-one : {s : List ℕ} {from : BitReader} {n : ℕ} {g : Geometry} {ids ids₁ ids₂ a₁ a₂ c₁ c₂ runs₁ runs₂ rects₁ rects₂ : List ℕ} → FrontsGroups s from n g ids ids₁ a₁ c₁ runs₁ rects₁ → FrontsGroups s from n g ids ids₂ a₂ c₂ runs₂ rects₂
-    → (ids₁ ≡ ids₂) × (a₁ ≡ a₂) × (c₁ ≡ c₂) × (runs₁ ≡ runs₂) × (rects₁ ≡ rects₂)
-groups-front-one {s} {from} {n} {g} {ids} {ids₁} {ids₂} x y =
+pub groups-front-one : {s : List ℕ} {from : BitReader} {n : ℕ} {g : Geometry} {ids ids₁ ids₂ a₁ a₂ : List ℕ} {lent lent₁ lent₂ : Arrays}
+    → FrontsGroups s from n g ids lent ids₁ a₁ lent₁ → FrontsGroups s from n g ids lent ids₂ a₂ lent₂
+    → (ids₁ ≡ ids₂) × (a₁ ≡ a₂) × (lent₁ ≡ lent₂)
+groups-front-one {s} {from} {n} {g} {ids} {ids₁} {ids₂} {lent = lent} x y =
     let e = one-groups s from n g ids (x .r) (y .r) ids₁ ids₂ (x .call) (y .call) in (
       e .1,
       x .told ∙ ap groupsNumbers (e .0) ∙ sym (y .told),
-      x .group ∙ ap (λ (r : SliceGroupRead). groupNumbers (r .groups .group)) (e .0) ∙ sym (y .group),
-      x .runs ∙ ap (λ (r : SliceGroupRead). r .groups .«run_length_minus1») (e .0) ∙ sym (y .runs),
-      x .rects ∙ ap (λ (r : SliceGroupRead). corners (r .groups .rectangles)) (e .0) ∙ sym (y .rects),
+      x .filled ∙ ap (λ (r : SliceGroupRead). lentAfter (r .number) (arraysOf (r .groups)) lent) (e .0) ∙ sym (y .filled),
     )
