@@ -1,4 +1,5 @@
 -- Laws.
+pub mod Back
 pub mod Value
 pub mod Trailing
 pub mod Ones
@@ -12,7 +13,6 @@ pub mod Reading
 pub mod Locality
 pub mod Refusing
 pub mod OneCode
-pub mod Unique
 pub mod Writing
 pub mod WriteRead
 pub mod Sheets

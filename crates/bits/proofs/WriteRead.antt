@@ -17,6 +17,7 @@ use Rattle.bits.specs.Reading.{Entered}
 use Rattle.bits.specs.Writing.{content, Appends, WriteMeans, Field, u, flag, ue, se, codeOf, HasCode, without, ReadsField, Written, nothing, next, ReadBack, end, then}
 use Rattle.bits.specs.declared.BitWriter.{BitWriter}
 use Rattle.bits.specs.declared.Put.the-variants.{Done}
+use Rattle.bits.proofs.Back.{write-answer}
 use Rattle.bits.proofs.Entry.{enters}
 use Rattle.bits.proofs.Value.{value-lt, value-split, value-one}
 use Rattle.bits.proofs.Ones.{last-is}
@@ -38,7 +39,7 @@ written-codes : {o o′ : List ℕ} {st st′ : BitWriter} {fs : List Field} →
     → AllHave fs × (content o′ st′ ≡ content o st ++ codesOf fs)
 written-codes {o} {st} nothing = (tt, sym (append-nil (content o st)))
 written-codes {o} {st} (next {f} {fs} h t) =
-    let m = subst (WriteMeans o st (codeOf f) (HasCode f) (without f)) (sym (h .answers))
+    let m = subst (WriteMeans o st (codeOf f) (HasCode f) (without f)) (sym (write-answer h))
     (field-means o st f) in
     let r = written-codes t in (
       (m .1, r .0),
@@ -125,7 +126,7 @@ pub write-read : {o o₁ o₂ : List ℕ} {st₁ st₂ : BitWriter} {fs : List F
     → (p : ℕ) × ReadBack (take (st₂ .written .0) o₂) 0 fs p × (finishRbsp (take (st₂ .written .0) o₂) p ≡ 0)
 write-read {o} {o₁} {o₂} {st₁} {st₂} {fs} h t =
     let r = written-codes h in
-    let m = subst (WriteMeans o₁ st₁ (trailingBits (st₁ .count)) Unit 0) (sym (t .answers))
+    let m = subst (WriteMeans o₁ st₁ (trailingBits (st₁ .count)) Unit 0) (sym (write-answer t))
     (trailing-means o₁ st₁) in
     let c = st₁ .count in
     let s = take (st₂ .written .0) o₂ in

@@ -1,4 +1,5 @@
--- WHAT EACH CALL ANSWERS, for everything that goes in, refusals included; and, for each call, the record that ties its result to that answer.
+-- WHAT EACH CALL ANSWERS, for everything that goes in, refusals included; and, for each kind of
+-- answer, the contract that ties a call's result to it.
 use Prim.Native.Nat.{ℕ, zero, suc, _+_, _-_, _/_, _%_, _^_}
 use mathlib.Core.Path.{_≡_}
 use mathlib.Core.List.{List, [], _∷_}
@@ -51,9 +52,12 @@ unless refuse (suc n) x = refuse (suc n)
 
 -- ---- reading
 
--- at the start
+-- the reader at place p, and at the start
+abbrev pub readerAt : ℕ → BitReader
+readerAt p = record { at = record { 0 = p } }
+
 abbrev pub newReader : BitReader
-newReader = record { at = record { 0 = 0 } }
+newReader = readerAt 0
 
 -- the position is past the end
 unfoldable pub pastEnd : List ℕ → ℕ → Bool
@@ -147,40 +151,46 @@ abbrev pub number : {A : Type 0} → Ans A → ℕ
 number (got a q) = done
 number (no n) = n
 
--- a refusal gives the reader back as it came
-abbrev pub Same : BitReader → Bits → Type 0
-Same from (Value v r) = Unit
-Same from (Refused n r) = r ≡ from
+abbrev pub toldNumber : {A : Type 0} → Told A → ℕ
+toldNumber (told a) = done
+toldNumber (denied n) = n
 
-abbrev pub BitSame : BitReader → Bit → Type 0
-BitSame from (BValue v r) = Unit
-BitSame from (BRefused n r) = r ≡ from
+-- ---- and back: the one answer of the code that stands for an answer. A refusal gives the reader back as it came.
 
-abbrev pub SignedSame : BitReader → Signed → Type 0
-SignedSame from (SValue v r) = Unit
-SignedSame from (SRefused n r) = r ≡ from
+abbrev pub backBy : {A R : Type 0} → (A → BitReader → R) → (ℕ → BitReader → R) → BitReader → Ans A → R
+backBy value refused from (got a q) = value a (readerAt q)
+backBy value refused from (no n) = refused n from
 
-abbrev pub MovedSame : BitReader → Moved → Type 0
-MovedSame from (To r) = Unit
-MovedSame from (MRefused n r) = r ≡ from
+abbrev pub back : BitReader → Ans ℕ → Bits
+back = backBy Value Refused
 
--- ---- the contracts of reading, for each kind of answer
+abbrev pub bitBack : BitReader → Ans Bool → Bit
+bitBack = backBy BValue BRefused
 
-pub record Reads (from : BitReader) (r : Bits) (a : Ans ℕ) : Type 0 where
-  pub answers : answer r ≡ a
-  pub same : Same from r
+abbrev pub signedBack : BitReader → Ans ℤ → Signed
+signedBack = backBy SValue SRefused
 
-pub record ReadsBit (from : BitReader) (r : Bit) (a : Ans Bool) : Type 0 where
-  pub answers : bitAnswer r ≡ a
-  pub same : BitSame from r
+abbrev pub movedBack : BitReader → Ans Unit → Moved
+movedBack = backBy (λ v r. To r) MRefused
 
-pub record ReadsSigned (from : BitReader) (r : Signed) (a : Ans ℤ) : Type 0 where
-  pub answers : signedAnswer r ≡ a
-  pub same : SignedSame from r
+abbrev pub moreBack : Told Bool → More
+moreBack (told true) = Yes
+moreBack (told false) = No
+moreBack (denied n) = YRefused n
 
-pub record Moves (from : BitReader) (r : Moved) (a : Ans Unit) : Type 0 where
-  pub answers : movedAnswer r ≡ a
-  pub same : MovedSame from r
+-- ---- the contracts of reading, for each kind of answer: what the call gives for the answer to everything that went in
+
+abbrev pub Reads : BitReader → Bits → Ans ℕ → Type 0
+Reads from r a = r ≡ back from a
+
+abbrev pub ReadsBit : BitReader → Bit → Ans Bool → Type 0
+ReadsBit from r a = r ≡ bitBack from a
+
+abbrev pub ReadsSigned : BitReader → Signed → Ans ℤ → Type 0
+ReadsSigned from r a = r ≡ signedBack from a
+
+abbrev pub Moves : BitReader → Moved → Ans Unit → Type 0
+Moves from r a = r ≡ movedBack from a
 
 -- ---- positions, and se(v)'s mapping as a call
 
@@ -192,6 +202,10 @@ abbrev pub alignedAnswer : Aligned → Option ℕ
 alignedAnswer (At b) = some (b .0)
 alignedAnswer Within = none
 
+abbrev pub alignedBack : Option ℕ → Aligned
+alignedBack (some b) = At (record { 0 = b })
+alignedBack none = Within
+
 -- 2 ^ 32 - 1, the last of the u32, has no code
 abbrev pub mapped : ℕ → Told ℤ
 mapped k = cond (leb 4294967295 k) (denied noCode) (told (signedOf k))
@@ -199,6 +213,10 @@ mapped k = cond (leb 4294967295 k) (denied noCode) (told (signedOf k))
 abbrev pub mappedAnswer : Mapped → Told ℤ
 mappedAnswer (Is z) = told z
 mappedAnswer (NRefused n) = denied n
+
+abbrev pub mappedBack : Told ℤ → Mapped
+mappedBack (told z) = Is z
+mappedBack (denied n) = NRefused n
 
 -- ---- writing
 
@@ -251,16 +269,25 @@ writeTrailing o st = unless (λ k. kept k o) (entryOn (length o) st) (roomed o s
 
 -- ---- the contract of writing
 
+-- what the code's answer stands for, beside the room as the call returns
 abbrev pub outcome : Put → List ℕ → Wrote
 outcome (Done st) o = wrote st o
 outcome (PRefused n st) o = kept n o
 
--- a refusal gives the writer back as it came
-abbrev pub PutSame : BitWriter → Put → Type 0
-PutSame from (Done st) = Unit
-PutSame from (PRefused n st) = st ≡ from
+abbrev pub wroteNumber : Wrote → ℕ
+wroteNumber (wrote st o) = done
+wroteNumber (kept n o) = n
 
--- what a call answers, and what the room holds as it returns
+-- and back. A refusal gives the writer back as it came.
+abbrev pub putBack : BitWriter → Wrote → Put
+putBack from (wrote st o) = Done st
+putBack from (kept n o) = PRefused n from
+
+abbrev pub roomBack : Wrote → List ℕ
+roomBack (wrote st o) = o
+roomBack (kept n o) = o
+
+-- what a call gives, and what the room holds as it returns
 pub record Writes (from : BitWriter) (r : Put) (room : List ℕ) (a : Wrote) : Type 0 where
-  pub answers : outcome r room ≡ a
-  pub same : PutSame from r
+  pub answers : r ≡ putBack from a
+  pub memory : room ≡ roomBack a

@@ -8,7 +8,8 @@ use lib.ListN.{length, take, drop}
 use Rattle.desk.specs.Numbers.{most, tooLong, badState, badWidth, bitsRunOut, expGolombTooLarge}
 use Rattle.bits.specs.Rule.{valueAt}
 pub use Rattle.bits.specs.Rule.{size, bits, bitsOf, URange, ueCode, UeRange, seCode, SeRange, Stands}
-pub use Rattle.bits.specs.Answer.{Ans, got, no, number, andThen, answer, bitAnswer, signedAnswer, movedAnswer, Same, BitSame, SignedSame, MovedSame, Reads, ReadsBit, ReadsSigned, Moves, bitNumber}
+pub use Rattle.bits.specs.Answer.{Ans, got, no, number, andThen, unless, readerAt, Reads, ReadsBit, ReadsSigned, Moves, bitNumber}
+pub use Rattle.bits.specs.Answer.{answer, bitAnswer, signedAnswer, movedAnswer, backBy, back, bitBack, signedBack, movedBack}
 pub use Rattle.bits.specs.Answer.{pastEnd, readBits, readBit, readUe, readSe, skipped}
 
 -- what the entry checks 1 and 2 let through

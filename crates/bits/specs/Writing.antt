@@ -9,7 +9,7 @@ use Rattle.desk.specs.Numbers.{most, tooLong, badState, badWidth, noCode, noRoo
 use Rattle.bits.specs.Rule.{bits, bitsOf, URange, ueCode, UeRange, seCode, SeRange}
 pub use Rattle.bits.specs.Step.{Good, Wrote, wrote, kept}
 use Rattle.bits.specs.Answer.{got, readBits, readBit, readUe, readSe}
-pub use Rattle.bits.specs.Answer.{newWriter, badWriter, Writes, outcome, PutSame, finishRbsp}
+pub use Rattle.bits.specs.Answer.{newWriter, badWriter, Writes, outcome, wroteNumber, putBack, roomBack, finishRbsp}
 pub use Rattle.bits.specs.Answer.{writeBits, writeBit, writeUe, writeSe, writeTrailing}
 use Rattle.bits.specs.Reading.{bitCode}
 use Rattle.bits.specs.declared.BitWriter.{BitWriter}

@@ -1,9 +1,13 @@
-// The number of an answer: what a caller hands on where a read was refused.
+// The number of an answer: what a caller hands on where a call was refused.
 ghost use mathlib.Core.Path.{_≡_};
-ghost use Rattle.bits.specs.Answer.{number, answer, bitAnswer, signedAnswer, movedAnswer};
+ghost use mathlib.Core.List.{[]};
+ghost use Rattle.bits.specs.Answer.{number, toldNumber, wroteNumber, answer, bitAnswer, signedAnswer, movedAnswer, moreAnswer, mappedAnswer, outcome};
 use super::Bit;
 use super::Bits;
+use super::Mapped;
+use super::More;
 use super::Moved;
+use super::Put;
 use super::Signed;
 
 impl Bits {
@@ -46,6 +50,41 @@ impl Moved {
         match self {
             Moved::To(_) => desk::DONE,
             Moved::Refused(n, _) => n,
+        }
+    }
+}
+
+impl More {
+    pub fn number(self) -> u8
+        ensures { λ r. ⌜ r ≡ toldNumber (moreAnswer self) ⌝ }
+    {
+        match self {
+            More::Yes => desk::DONE,
+            More::No => desk::DONE,
+            More::Refused(n) => n,
+        }
+    }
+}
+
+impl Mapped {
+    pub fn number(self) -> u8
+        ensures { λ r. ⌜ r ≡ toldNumber (mappedAnswer self) ⌝ }
+    {
+        match self {
+            Mapped::Value(_) => desk::DONE,
+            Mapped::Refused(n) => n,
+        }
+    }
+}
+
+impl Put {
+    // Whatever the room holds: here nothing.
+    pub fn number(self) -> u8
+        ensures { λ r. ⌜ r ≡ wroteNumber (outcome self []) ⌝ }
+    {
+        match self {
+            Put::Done(_) => desk::DONE,
+            Put::Refused(n, _) => n,
         }
     }
 }

@@ -4,7 +4,7 @@ ghost use Prim.Native.Nat.{_<_};
 ghost use lib.IntN.{negsuc};
 ghost use Rattle.bits.specs.Rule.{signedOf, unsignedOf};
 ghost use Rattle.bits.specs.Step.{Prefix};
-ghost use Rattle.bits.specs.Answer.{mapped, mappedAnswer};
+ghost use Rattle.bits.specs.Answer.{mapped, mappedBack};
 use super::Mapped;
 
 // Odd k stands for (k + 1) / 2, even k for -(k / 2).
@@ -21,7 +21,7 @@ pub(crate) fn signed_of(k: u32) -> i32
 
 // The same, asked for by itself: 2^32-1, which no code has, is refused.
 pub fn golomb_to_signed(val: u32) -> Mapped
-    ensures { λ r. ⌜ mappedAnswer r ≡ mapped val ⌝ }
+    ensures { λ r. ⌜ r ≡ mappedBack (mapped val) ⌝ }
 {
     if val == u32::MAX {
         return Mapped::Refused(desk::NO_CODE);

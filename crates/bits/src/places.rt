@@ -6,7 +6,7 @@ ghost use lib.Count.{leadingZeros};
 ghost use Rattle.desk.specs.Numbers.{most};
 ghost use Rattle.bits.specs.Rule.{valueAt, size};
 ghost use Rattle.bits.specs.Step.{FirstFrom, AfterLast};
-ghost use Rattle.bits.specs.Answer.{wholeBytes, alignedAnswer};
+ghost use Rattle.bits.specs.Answer.{wholeBytes, alignedBack};
 use super::Aligned;
 use super::BitPos;
 use super::BytePos;
@@ -16,7 +16,7 @@ use super::cast::byte_to_u64;
 impl BitPos {
     // The byte that starts here, if one does.
     pub fn byte(self) -> Aligned
-        ensures { λ r. ⌜ alignedAnswer r ≡ wholeBytes (self .0) ⌝ }
+        ensures { λ r. ⌜ r ≡ alignedBack (wholeBytes (self .0)) ⌝ }
     {
         if self.0 % 8 != 0 {
             return Aligned::Within;

@@ -2,7 +2,7 @@
 ghost use mathlib.Core.Path.{_≡_};
 ghost use Prim.Native.Nat.{_%_};
 ghost use lib.Dec.{eqb};
-ghost use Rattle.bits.specs.Answer.{newReader, pastEnd, entryAt, Reads, ReadsBit, ReadsSigned, Moves, readBits, readBit, readUe, readSe, skipped, moreAnswer, hasMore, finishRbsp, finishSei};
+ghost use Rattle.bits.specs.Answer.{newReader, pastEnd, entryAt, Reads, ReadsBit, ReadsSigned, Moves, readBits, readBit, readUe, readSe, skipped, moreBack, hasMore, finishRbsp, finishSei};
 use super::Bit;
 use super::BitPos;
 use super::BitReader;
@@ -125,7 +125,7 @@ impl BitReader {
 
     // Is the place before the trailing bits (Rec 7.2, more_rbsp_data)?
     pub fn has_more_rbsp_data(self, s: &[u8]) -> More
-        ensures { λ r. ⌜ moreAnswer r ≡ hasMore (now (s .entry)) (self .at .0) ⌝ }
+        ensures { λ r. ⌜ r ≡ moreBack (hasMore (now (s .entry)) (self .at .0)) ⌝ }
     {
         let e = self.entry(s);
         if e != 0 {

@@ -1,8 +1,9 @@
-use mathlib.Core.Path.{sym, _∙_}
+use mathlib.Core.Path.{sym, ap, _∙_}
+use mathlib.Core.Bool.{true, false}
 use native.Mathlib.Omega.{arith}
 use borrow.Author.Needs.{needs}
 use denote.Ref.{now}
-use Rattle.bits.specs.Answer.{hasMore, denied}
+use Rattle.bits.specs.Answer.{hasMore, told, denied, moreBack}
 use Rattle.bits.specs.Reading.{Entered}
 use Rattle.bits.proofs.Entry.{entered, refused, passed}
 use Rattle.bits.proofs.Ones.{behind-yes, behind-no}
@@ -14,7 +15,7 @@ entry-requires c κs = search needs
 
 returns : tie.Need-returns
 unfolding hasMore
-returns c = refused denied _ _ (c .before .entry .ensures) _ (c .if1 .taken)
+returns c = ap moreBack (refused denied _ _ (c .before .entry .ensures) _ (c .if1 .taken))
 
 ok : (c : tie.Else1) → Entered (now (c .before .before .before .args .s)) (c .before .before .before .args .self .at .0)
 ok c = entered _ _ (sym (c .before .entry .ensures) ∙ c .if1 .left)
@@ -29,16 +30,18 @@ returns-2 : tie.Need-returns-2
 unfolding hasMore
 returns-2 c =
     let a = c .before .before .before .before .before .args in
-    passed denied _ _ (c .before .before .before .entry .ensures) (c .before .before .if1 .left)
-    (simp (behind-yes (now (a .s)) (a .self .at .0) _ (c .before .after-last .ensures) (c .if2 .taken)))
+    ap moreBack {x = told true}
+    (passed denied _ _ (c .before .before .before .entry .ensures) (c .before .before .if1 .left)
+    (simp (behind-yes (now (a .s)) (a .self .at .0) _ (c .before .after-last .ensures) (c .if2 .taken))))
 
 returns-3 : tie.Need-returns-3
 unfolding hasMore
 returns-3 c =
     let a = c .before .before .before .before .before .args in
     let g = ok (c .before .before) in
-    passed denied _ _ (c .before .before .before .entry .ensures) (c .before .before .if1 .left)
-    (simp (behind-no (now (a .s)) (a .self .at .0) _ (c .before .after-last .ensures) (g .within) (c .if2 .left)))
+    ap moreBack {x = told false}
+    (passed denied _ _ (c .before .before .before .entry .ensures) (c .before .before .if1 .left)
+    (simp (behind-no (now (a .s)) (a .self .at .0) _ (c .before .after-last .ensures) (g .within) (c .if2 .left))))
 
 pub has-more-rbsp-data-spec : {M : Type 1} → statement M
 has-more-rbsp-data-spec =

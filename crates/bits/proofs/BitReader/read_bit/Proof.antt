@@ -1,6 +1,7 @@
-use mathlib.Core.Path.{sym, ap, subst, _∙_}
 use borrow.Author.Needs.{needs}
-use Rattle.bits.specs.Answer.{answer, readBit, asBool, Same}
+use denote.Ref.{now}
+use Rattle.bits.specs.Answer.{readBits, readBit}
+use Rattle.bits.proofs.Back.{bit-back}
 use Rattle.bits.proofs.BitReader.read_bit.Statement.{statement}
 use Rattle.bits.proofs.BitReader.read_bit.Tie as tie
 
@@ -16,18 +17,14 @@ enum-known-n c = search needs
 returns : tie.Need-returns
 unfolding readBit
 returns c =
-    record {
-      answers = ap asBool (sym (ap answer (c .before .v .given .1)) ∙ c .before .before .before .read .ensures .answers);
-      same = tt;
-    }
+    let a = c .before .before .before .before .before .args in
+    bit-back (a .self) (readBits (now (a .s)) (a .self .at .0) 1) (c .before .before .before .read .ensures) (c .before .v .given .1)
 
 returns-2 : tie.Need-returns-2
 unfolding readBit
 returns-2 c =
-    record {
-      answers = ap asBool (sym (ap answer (c .before .n .given .1)) ∙ c .before .before .before .read .ensures .answers);
-      same = subst (Same _) (c .before .n .given .1) (c .before .before .before .read .ensures .same);
-    }
+    let a = c .before .before .before .before .before .args in
+    bit-back (a .self) (readBits (now (a .s)) (a .self .at .0) 1) (c .before .before .before .read .ensures) (c .before .n .given .1)
 
 pub read-bit-spec : {M : Type 1} → statement M
 read-bit-spec =

@@ -1,10 +1,13 @@
-use mathlib.Core.Path.{sym, ap, subst, _∙_}
+use mathlib.Core.Path.{sym, ap, _∙_}
 use borrow.Author.Needs.{needs}
 use mir.Syntax.{w32}
 use mir.ValLaws.{toZ-ofZ}
 use lib.IntN.{ℤ}
-use Rattle.bits.specs.Answer.{Ans, got, answer, readSe, asSigned, Same}
+use denote.Ref.{now}
+use Rattle.bits.specs.Answer.{answer, readUe, readSe}
 use Rattle.bits.proofs.Reading.{ue-codes}
+use Rattle.bits.proofs.Back.{read-answer, se-back}
+use Rattle.bits.specs.declared.Signed.the-variants.{Value as SValue}
 use Rattle.bits.proofs.BitReader.read_se.Statement.{statement}
 use Rattle.bits.proofs.BitReader.read_se.Tie as tie
 
@@ -16,7 +19,7 @@ enum-known-k c = search needs
 
 signed-of-requires : tie.Need-signed-of-requires
 signed-of-requires c κs =
-    ue-codes .took _ _ _ _ (sym (c .before .before .before .read-ue .ensures .answers) ∙ ap answer (c .before .k .given .1)) .ok
+    ue-codes .took _ _ _ _ (sym (read-answer _ _ (c .before .before .before .read-ue .ensures)) ∙ ap answer (c .before .k .given .1)) .ok
 
 enum-known-n : tie.Need-enum-known-n
 enum-known-n c = search needs
@@ -24,20 +27,16 @@ enum-known-n c = search needs
 returns : tie.Need-returns
 unfolding readSe
 returns c =
-    let next = c .before .before .k .given .0 .1 .0 .at .0 in
-    record {
-      answers = ap {B = Ans ℤ} (λ (z : ℤ). got z next) (toZ-ofZ w32 (c .signed-of .result) (record { sfits = c .signed-of .ok }) ∙ c .signed-of .ensures)
-          ∙ ap asSigned (sym (ap answer (c .before .before .k .given .1)) ∙ c .before .before .before .before .read-ue .ensures .answers);
-      same = tt;
-    }
+    let a = c .before .before .before .before .before .before .args in
+    let next = c .before .before .k .given .0 .1 .0 in
+    ap (λ (z : ℤ). SValue z next) (toZ-ofZ w32 (c .signed-of .result) (record { sfits = c .signed-of .ok }) ∙ c .signed-of .ensures)
+    ∙ se-back (a .self) (readUe (now (a .s)) (a .self .at .0)) (c .before .before .before .before .read-ue .ensures) (c .before .before .k .given .1)
 
 returns-2 : tie.Need-returns-2
 unfolding readSe
 returns-2 c =
-    record {
-      answers = ap asSigned (sym (ap answer (c .before .n .given .1)) ∙ c .before .before .before .read-ue .ensures .answers);
-      same = subst (Same _) (c .before .n .given .1) (c .before .before .before .read-ue .ensures .same);
-    }
+    let a = c .before .before .before .before .before .args in
+    se-back (a .self) (readUe (now (a .s)) (a .self .at .0)) (c .before .before .before .read-ue .ensures) (c .before .n .given .1)
 
 pub read-se-spec : {M : Type 1} → statement M
 read-se-spec =

@@ -1,11 +1,11 @@
-use mathlib.Core.Path.{refl, sym, _∙_}
+use mathlib.Core.Path.{sym, ap, _∙_}
 use Prim.Native.Nat.{ℕ, _+_, _-_, _<_}
 use native.Mathlib.Omega.{arith}
 use borrow.Author.Needs.{needs}
 use borrow.Author.Tests.{lt-ltb, le-ltb}
 use denote.Ref.{now}
 use lib.Pow.{pow-mono, pow-pos}
-use Rattle.bits.specs.Answer.{readUe, no}
+use Rattle.bits.specs.Answer.{readUe, got, no, back}
 use Rattle.bits.specs.Reading.{Entered}
 use Rattle.bits.proofs.Entry.{entered, refused, passed}
 use Rattle.bits.proofs.Value.{value-lt, one-shl}
@@ -17,7 +17,7 @@ entry-requires c κs = search needs
 
 returns : tie.Need-returns
 unfolding readUe
-returns c = record { answers = refused no _ _ (c .before .entry .ensures) _ (c .if1 .taken); same = refl }
+returns c = ap (back _) (refused no _ _ (c .before .entry .ensures) _ (c .if1 .taken))
 
 ok : (c : tie.Else1) → Entered (now (c .before .before .before .args .s)) (c .before .before .before .args .self .at .0)
 ok c = entered _ _ (sym (c .before .entry .ensures) ∙ c .if1 .left)
@@ -31,11 +31,9 @@ first-one-requires c κs = let g = ok c in (g .within, g .small)
 returns-2 : tie.Need-returns-2
 unfolding readUe
 returns-2 c =
-    record {
-      answers = passed no _ _ (c .before .before .before .entry .ensures) (c .before .before .if1 .left)
-          (simp (c .before .first-one .ensures .found, le-ltb _ _ (c .if2 .taken)));
-      same = refl;
-    }
+    ap (back _) {x = no _}
+    (passed no _ _ (c .before .before .before .entry .ensures) (c .before .before .if1 .left)
+          (simp (c .before .first-one .ensures .found, le-ltb _ _ (c .if2 .taken))))
 
 sub-zeros : tie.Need-sub-zeros
 sub-zeros c = search needs
@@ -43,11 +41,9 @@ sub-zeros c = search needs
 returns-3 : tie.Need-returns-3
 unfolding readUe
 returns-3 c =
-    record {
-      answers = passed no _ _ (c .before .before .before .before .entry .ensures) (c .before .before .before .if1 .left)
-          (simp (c .before .before .first-one .ensures .found, lt-ltb _ _ (c .before .if2 .left), lt-ltb 31 _ (c .if3 .taken)));
-      same = refl;
-    }
+    ap (back _) {x = no _}
+    (passed no _ _ (c .before .before .before .before .entry .ensures) (c .before .before .before .if1 .left)
+          (simp (c .before .before .first-one .ensures .found, lt-ltb _ _ (c .before .if2 .left), lt-ltb 31 _ (c .if3 .taken))))
 
 add-next : tie.Need-add-next
 add-next c = let g = ok (c .before .before .before) in omega arith
@@ -58,16 +54,14 @@ add-next-2 c = let g = ok (c .before .before .before) in omega arith
 returns-4 : tie.Need-returns-4
 unfolding readUe
 returns-4 c =
-    record {
-      answers = passed no _ _ (c .before .before .before .before .before .entry .ensures) (c .before .before .before .before .if1 .left)
+    ap (back _) {x = no _}
+    (passed no _ _ (c .before .before .before .before .before .entry .ensures) (c .before .before .before .before .if1 .left)
           (simp (
             c .before .before .before .first-one .ensures .found,
             lt-ltb _ _ (c .before .before .if2 .left),
             le-ltb 31 _ (c .before .if3 .left),
             lt-ltb _ _ (c .if4 .taken),
-          ));
-      same = refl;
-    }
+          )))
 
 -- the zeros that were passed, and 2 to their count
 abbrev zeros : tie.Else4 → ℕ
@@ -101,8 +95,8 @@ add-v c =
 returns-5 : tie.Need-returns-5
 unfolding readUe
 returns-5 c =
-    record {
-      answers = passed no _ _ (c .before .before .before .before .before .before .entry .ensures) (c .before .before .before .before .before .if1 .left)
+    ap (back _) {x = got _ _}
+    (passed no _ _ (c .before .before .before .before .before .before .entry .ensures) (c .before .before .before .before .before .if1 .left)
           (simp (
             c .before .before .before .before .first-one .ensures .found,
             lt-ltb _ _ (c .before .before .before .if2 .left),
@@ -110,9 +104,7 @@ returns-5 c =
             le-ltb _ _ (c .before .if4 .left),
             one-shl 32 (zeros (c .before)) (few (c .before)),
             c .bits-at .ensures,
-          ));
-      same = tt;
-    }
+          )))
 
 pub read-ue-spec : {M : Type 1} → statement M
 read-ue-spec =

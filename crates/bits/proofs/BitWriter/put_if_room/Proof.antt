@@ -1,6 +1,7 @@
-use mathlib.Core.Path.{refl, sym, _∙_}
+use mathlib.Core.Path.{sym, _∙_}
 use borrow.Author.Needs.{needs}
 use borrow.Author.Tests.{ltb-false}
+use Rattle.bits.proofs.Back.{keeps, writes}
 use Rattle.bits.proofs.BitWriter.put_if_room.Statement.{statement}
 use Rattle.bits.proofs.BitWriter.put_if_room.Tie as tie
 
@@ -8,7 +9,7 @@ lacks-room-requires : tie.Need-lacks-room-requires
 lacks-room-requires c κs = search needs
 
 returns : tie.Need-returns
-returns c = record { answers = simp (sym (c .before .lacks-room .ensures) ∙ c .if1 .taken); same = refl }
+returns c = keeps (simp (sym (c .before .lacks-room .ensures) ∙ c .if1 .taken))
 
 put-requires : tie.Need-put-requires
 put-requires c κs =
@@ -24,7 +25,7 @@ same-length c = search needs
 returns-2 : tie.Need-returns-2
 returns-2 c =
     let b = c .before .before .before .before in
-    record { answers = simp (sym (b .before .lacks-room .ensures) ∙ b .if1 .left) (c .before .before .put .ensures); same = tt }
+    writes (simp (sym (b .before .lacks-room .ensures) ∙ b .if1 .left) (c .before .before .put .ensures))
 
 pub put-if-room-spec : {M : Type 1} → statement M
 put-if-room-spec =

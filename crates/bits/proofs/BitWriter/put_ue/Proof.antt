@@ -1,4 +1,4 @@
-use mathlib.Core.Path.{_≡_, refl, sym, ap, ap₂, _∙_, subst}
+use mathlib.Core.Path.{_≡_, sym, ap, ap₂, _∙_, subst}
 use Prim.Native.Nat.{ℕ, suc, _+_, _*_, _/_, _^_, _≤_, _<_}
 use native.Mathlib.Numerals.{add-one}
 use native.Mathlib.Omega.{arith}
@@ -10,6 +10,7 @@ use lib.ListN.{length}
 use Rattle.bits.specs.Step.{stored, more, Wrote, GoodAfter}
 use Rattle.bits.specs.Answer.{ueWidth}
 use Rattle.bits.proofs.Storing.{stored-more, stored-good}
+use Rattle.bits.proofs.Back.{keeps, writes}
 use Rattle.bits.proofs.BitWriter.put_ue.Statement.{statement}
 use Rattle.bits.proofs.BitWriter.put_ue.Tie as tie
 
@@ -36,7 +37,7 @@ lacks c =
     ap (λ (k : ℕ). ltb (length (now (a .out))) (a .self .written .0 + (a .self .count + k) / 8)) width ∙ sym (c .lacks-room .ensures)
 
 returns : tie.Need-returns
-returns c = record { answers = simp (lacks (c .before) ∙ c .if1 .taken); same = refl }
+returns c = keeps (simp (lacks (c .before) ∙ c .if1 .taken))
 
 -- the code has room
 room : (c : tie.Else1) → let a = c .before .before .before .before .args in
@@ -92,14 +93,11 @@ returns-2 c =
     let is = l .is in
     let width : m + (m + 1) ≡ ueWidth v = omega arith in
     let value : 0 * 2 ^ (m + 1) + (v + 1) ≡ v + 1 = omega arith in
-    record {
-      answers = simp (lacks (e .before) ∙ e .if1 .left)
+    writes (simp (lacks (e .before) ∙ e .if1 .left)
           (c .before .before .put .ensures
           ∙ ap (λ (x : Wrote). more x (m + 1) (v + 1)) (z .put-zeros .ensures)
           ∙ stored-more o (a .self) m 0 (m + 1) (v + 1) (code-fits v m (l .high)) (omega arith)
-          ∙ ap₂ (λ (k x : ℕ). stored o (a .self) k x) width value);
-      same = tt;
-    }
+          ∙ ap₂ (λ (k x : ℕ). stored o (a .self) k x) width value))
 
 pub put-ue-spec : {M : Type 1} → statement M
 put-ue-spec =

@@ -1,4 +1,4 @@
-use mathlib.Core.Path.{refl, sym, _∙_}
+use mathlib.Core.Path.{sym, _∙_}
 use Prim.Native.Nat.{ℕ, _^_}
 use native.Mathlib.Omega.{arith}
 use borrow.Author.Needs.{needs}
@@ -9,6 +9,7 @@ use Rattle.bits.specs.Step.{kept, Good}
 use Rattle.bits.specs.Answer.{writeBits}
 use Rattle.bits.proofs.Entry.{good, refused, passed}
 use Rattle.bits.proofs.Value.{one-shl}
+use Rattle.bits.proofs.Back.{keeps, writes-as}
 use Rattle.bits.proofs.BitWriter.write.Statement.{statement}
 use Rattle.bits.proofs.BitWriter.write.Tie as tie
 
@@ -19,7 +20,7 @@ returns : tie.Need-returns
 unfolding writeBits
 returns c =
     let o = now (c .before .before .before .args .out) in
-    record { answers = refused (λ (k : ℕ). kept k o) _ _ (c .before .entry .ensures) _ (c .if1 .taken); same = refl }
+    keeps (refused (λ (k : ℕ). kept k o) _ _ (c .before .entry .ensures) _ (c .if1 .taken))
 
 ok : (c : tie.Else1) → let a = c .before .before .before .args in Good (length (now (a .out))) (a .self)
 ok c = good _ _ (sym (c .before .entry .ensures) ∙ c .if1 .left)
@@ -28,10 +29,7 @@ returns-2 : tie.Need-returns-2
 unfolding writeBits
 returns-2 c =
     let o = now (c .before .before .before .before .args .out) in
-    record {
-      answers = passed (λ (k : ℕ). kept k o) _ _ (c .before .before .entry .ensures) (c .before .if1 .left) (simp (lt-ltb 32 _ (c .if2 .taken)));
-      same = refl;
-    }
+    keeps (passed (λ (k : ℕ). kept k o) _ _ (c .before .before .entry .ensures) (c .before .if1 .left) (simp (lt-ltb 32 _ (c .if2 .taken))))
 
 shl-if3 : tie.Need-shl-if3
 shl-if3 c = search needs
@@ -42,11 +40,8 @@ returns-3 c =
     let a = c .before .before .before .before .before .args in
     let o = now (a .out) in
     let n = a .width in
-    record {
-      answers = passed (λ (k : ℕ). kept k o) _ _ (c .before .before .before .entry .ensures) (c .before .before .if1 .left)
-          (simp (le-ltb 32 _ (c .before .if2 .left), le-leb (2 ^ n) (a .value) (omega (arith, one-shl 64 n (omega arith)))));
-      same = refl;
-    }
+    keeps (passed (λ (k : ℕ). kept k o) _ _ (c .before .before .before .entry .ensures) (c .before .before .if1 .left)
+          (simp (le-ltb 32 _ (c .before .if2 .left), le-leb (2 ^ n) (a .value) (omega (arith, one-shl 64 n (omega arith))))))
 
 put-if-room-requires : tie.Need-put-if-room-requires
 put-if-room-requires c κs =
@@ -63,12 +58,9 @@ returns-4 c =
     let a = b .before .before .before .before .before .args in
     let o = now (a .out) in
     let n = a .width in
-    let r = c .before .before .put-if-room .ensures in
-    record {
-      answers = passed (λ (k : ℕ). kept k o) _ _ (b .before .before .before .entry .ensures) (b .before .before .if1 .left)
-          (simp (le-ltb 32 n (b .before .if2 .left), lt-leb (2 ^ n) (a .value) (omega (arith, b, one-shl 64 n (omega (arith, b))))) (r .answers));
-      same = r .same;
-    }
+    writes-as (c .before .before .put-if-room .ensures)
+    (passed (λ (k : ℕ). kept k o) _ _ (b .before .before .before .entry .ensures) (b .before .before .if1 .left)
+    (simp (le-ltb 32 n (b .before .if2 .left), lt-leb (2 ^ n) (a .value) (omega (arith, b, one-shl 64 n (omega (arith, b)))))))
 
 pub write-spec : {M : Type 1} → statement M
 write-spec =

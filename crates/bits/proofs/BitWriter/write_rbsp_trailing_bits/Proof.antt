@@ -1,4 +1,4 @@
-use mathlib.Core.Path.{_≡_, refl, sym, ap₂, _∙_}
+use mathlib.Core.Path.{_≡_, sym, ap₂, _∙_}
 use Prim.Native.Nat.{ℕ, _+_, _-_}
 use native.Mathlib.Omega.{arith}
 use borrow.Author.Needs.{needs}
@@ -9,6 +9,7 @@ use Rattle.bits.specs.Step.{kept, Good}
 use Rattle.bits.specs.Answer.{writeTrailing, roomed}
 use Rattle.bits.proofs.Entry.{good, refused, passed}
 use Rattle.bits.proofs.Value.{one-shl}
+use Rattle.bits.proofs.Back.{keeps, writes-as}
 use Rattle.bits.proofs.BitWriter.write_rbsp_trailing_bits.Statement.{statement}
 use Rattle.bits.proofs.BitWriter.write_rbsp_trailing_bits.Tie as tie
 
@@ -19,7 +20,7 @@ returns : tie.Need-returns
 unfolding writeTrailing
 returns c =
     let o = now (c .before .before .before .args .out) in
-    record { answers = refused (λ (k : ℕ). kept k o) _ _ (c .before .entry .ensures) _ (c .if1 .taken); same = refl }
+    keeps (refused (λ (k : ℕ). kept k o) _ _ (c .before .entry .ensures) _ (c .if1 .taken))
 
 ok : (c : tie.Else1) → let a = c .before .before .before .args in Good (length (now (a .out))) (a .self)
 ok c = good _ _ (sym (c .before .entry .ensures) ∙ c .if1 .left)
@@ -55,12 +56,9 @@ returns-2 c =
     let few = g .few in
     let n = 7 - st .count in
     let n8 : n + 1 ≡ 8 - st .count = omega arith in
-    let r = c .before .before .put-if-room .ensures in
-    record {
-      answers = passed (λ (k : ℕ). kept k o) _ _ (b .before .before .entry .ensures) (b .before .if1 .left)
-          (r .answers ∙ ap₂ (λ (i y : ℕ). roomed o st i y) n8 (one-shl 32 n (omega arith)));
-      same = r .same;
-    }
+    writes-as (c .before .before .put-if-room .ensures)
+    (passed (λ (k : ℕ). kept k o) _ _ (b .before .before .entry .ensures) (b .before .if1 .left)
+    (ap₂ (λ (i y : ℕ). roomed o st i y) n8 (one-shl 32 n (omega arith))))
 
 pub write-rbsp-trailing-bits-spec : {M : Type 1} → statement M
 write-rbsp-trailing-bits-spec =

@@ -1,4 +1,4 @@
-use mathlib.Core.Path.{refl, sym, ap, _∙_}
+use mathlib.Core.Path.{sym, ap, _∙_}
 use mir.Val.{ofZ}
 use Rattle.bits.specs.Rule.{unsignedOf}
 use Prim.Native.Nat.{ℕ, _+_}
@@ -14,6 +14,7 @@ use Rattle.bits.specs.Step.{kept, Good}
 use Rattle.bits.specs.Answer.{writeSe, roomed, ueWidth}
 use Rattle.bits.proofs.Entry.{good, refused, passed}
 use Rattle.bits.proofs.Signs.{is-least, not-least, has-code}
+use Rattle.bits.proofs.Back.{keeps, writes-as}
 use Rattle.bits.proofs.BitWriter.write_se.Statement.{statement}
 use Rattle.bits.proofs.BitWriter.write_se.Tie as tie
 
@@ -24,7 +25,7 @@ returns : tie.Need-returns
 unfolding writeSe
 returns c =
     let o = now (c .before .before .before .args .out) in
-    record { answers = refused (λ (k : ℕ). kept k o) _ _ (c .before .entry .ensures) _ (c .if1 .taken); same = refl }
+    keeps (refused (λ (k : ℕ). kept k o) _ _ (c .before .entry .ensures) _ (c .if1 .taken))
 
 ok : (c : tie.Else1) → let a = c .before .before .before .args in Good (length (now (a .out))) (a .self)
 ok c = good _ _ (sym (c .before .entry .ensures) ∙ c .if1 .left)
@@ -34,10 +35,9 @@ unfolding writeSe
 returns-2 c =
     let b = c .before .before .before .before in
     let o = now (b .args .out) in
-    record {
-      answers = passed (λ (k : ℕ). kept k o) _ _ (c .before .before .entry .ensures) (c .before .if1 .left) (simp (is-least (b .args .value) (b .fits .value) (c .if2 .taken)));
-      same = refl;
-    }
+    keeps
+    (passed (λ (k : ℕ). kept k o) _ _ (c .before .before .entry .ensures) (c .before .if1 .left)
+    (simp (is-least (b .args .value) (b .fits .value) (c .if2 .taken))))
 
 unsigned-of-requires : tie.Need-unsigned-of-requires
 unsigned-of-requires c κs =
@@ -63,13 +63,9 @@ returns-3 c =
     let a = d .args in
     let o = now (a .out) in
     let is = c .before .before .before .unsigned-of .ensures ∙ ap unsignedOf (toZ-ofZ w32 (a .value) (d .fits .value)) in
-    let r = c .before .before .put-ue .ensures in
-    record {
-      answers = passed (λ (k : ℕ). kept k o) _ _ (b .before .before .entry .ensures) (b .before .if1 .left)
-          (simp (not-least (a .value) (d .fits .value) (b .if2 .left))
-          (r .answers ∙ ap (λ (k : ℕ). roomed o (a .self) (ueWidth k) (k + 1)) is));
-      same = r .same;
-    }
+    writes-as (c .before .before .put-ue .ensures)
+    (passed (λ (k : ℕ). kept k o) _ _ (b .before .before .entry .ensures) (b .before .if1 .left)
+    (simp (not-least (a .value) (d .fits .value) (b .if2 .left)) (ap (λ (k : ℕ). roomed o (a .self) (ueWidth k) (k + 1)) is)))
 
 pub write-se-spec : {M : Type 1} → statement M
 write-se-spec =
