@@ -12,9 +12,9 @@ use Rattle.annexb.specs.declared.AnnexBReader.{AnnexBReader}
 use Rattle.annexb.proofs.Laws.{one-result}
 use Rattle.bits.specs.declared.BitReader.{BitReader}
 use Rattle.bits.specs.declared.BitWriter.{BitWriter}
-use Rattle.bits.specs.Answer.{Ans, Told}
+use Rattle.bits.specs.declared.Mapped.{Mapped}
+use Rattle.bits.specs.Answer.{Ans, Told, toldNumber, mappedAnswer, putBack, roomBack}
 use Rattle.bits.specs.Step.{Wrote}
-use Rattle.bits.proofs.Unique.{read-one, read-bit-one, read-se-one, skip-one, has-more-one, golomb-to-signed-one, byte-one, write-one}
 use Rattle.pps.specs.declared.Geometry.{Geometry}
 use Rattle.pps.specs.declared.SliceGroupRead.{SliceGroupRead}
 use Rattle.pps.specs.declared.SliceRect.{SliceRect}
@@ -22,7 +22,8 @@ use Rattle.pps.proofs.Unique.{one-groups, one-rect}
 use Rattle.exports.specs.Fronts.{Fronts, lentAfter}
 use Rattle.exports.specs.Escaping.{readerOf, FrontsRead, FrontsWrite, FrontsDecode}
 use Rattle.exports.specs.Framing.{FrontsFrame}
-use Rattle.exports.specs.Bits.{FrontsBits, FrontsBit, FrontsMoved, FrontsSigned, signedValue, FrontsMore, FrontsAligned, FrontsPut, FrontsMapped, mappedValue, mappedNumber}
+use Rattle.exports.specs.Bits.{FrontsBits, FrontsBit, FrontsMoved, FrontsSigned, signedAfter, FrontsMore, FrontsAligned}
+use Rattle.exports.specs.Bits.{FrontsMapped, mappedAfter, FrontsPut, putNumbers}
 use Rattle.exports.specs.Groups.{Arrays, arraysOf, FrontsRect, FrontsGroups, groupsNumbers}
 
 -- where two answers of the fronted call are one, and memory too (M), so are the numbers
@@ -50,37 +51,47 @@ pub frame-front-one : {a : Answer AnnexBReader} {room marks room₁ room₂ mark
     → (a₁ ≡ a₂) × ((room₁ ≡ room₂) × (marks₁ ≡ marks₂))
 frame-front-one = fronts (λ r₁ r₂ p q. let e = one-result p q in (e .0, (e .1, e .2)))
 
--- ---- bits
+-- ---- bits: where the call's contract is an equation, its front leaves one answer
 
-module _ {from : BitReader} where
-  pub bits-front-one : {a : Ans ℕ} {a₁ a₂ : List ℕ} → FrontsBits from a a₁ → FrontsBits from a a₂ → a₁ ≡ a₂
-  bits-front-one = fronts-alone (λ r₁ r₂ p q. read-one p q)
+pub equal-front-one : {R : Type 0} {x : R} {numbers : R → List ℕ} {a₁ a₂ : List ℕ}
+    → Fronts (λ (r : R). r ≡ x) numbers a₁ → Fronts (λ (r : R). r ≡ x) numbers a₂ → a₁ ≡ a₂
+equal-front-one = fronts-alone (λ r₁ r₂ p q. p ∙ sym q)
 
-  pub bit-front-one : {a : Ans Bool} {a₁ a₂ : List ℕ} → FrontsBit from a a₁ → FrontsBit from a a₂ → a₁ ≡ a₂
-  bit-front-one = fronts-alone (λ r₁ r₂ p q. read-bit-one p q)
+-- so it is of read, read_ue, read_bit, skip, has_more_rbsp_data, byte_of, and read_num_ref_idx
+module _ (from : BitReader) where
+  pub bits-front-one : (a : Ans ℕ) {a₁ a₂ : List ℕ} → FrontsBits from a a₁ → FrontsBits from a a₂ → a₁ ≡ a₂
+  bits-front-one a = equal-front-one
 
-  pub moved-front-one : {a : Ans Unit} {a₁ a₂ : List ℕ} → FrontsMoved from a a₁ → FrontsMoved from a a₂ → a₁ ≡ a₂
-  moved-front-one = fronts-alone (λ r₁ r₂ p q. skip-one p q)
+  pub bit-front-one : (a : Ans Bool) {a₁ a₂ : List ℕ} → FrontsBit from a a₁ → FrontsBit from a a₂ → a₁ ≡ a₂
+  bit-front-one a = equal-front-one
 
-  pub signed-front-one : {a : Ans ℤ} {v₁ v₂ : ℤ} {a₁ a₂ : List ℕ} → FrontsSigned from a v₁ a₁ → FrontsSigned from a v₂ a₂ → (a₁ ≡ a₂) × (v₁ ≡ v₂)
-  signed-front-one = fronts (λ r₁ r₂ p q. let e = read-se-one (p .0) (q .0) in (e, p .1 ∙ ap signedValue e ∙ sym (q .1)))
+  pub moved-front-one : (a : Ans Unit) {a₁ a₂ : List ℕ} → FrontsMoved from a a₁ → FrontsMoved from a a₂ → a₁ ≡ a₂
+  moved-front-one a = equal-front-one
 
-  pub rect-front-one : {a : Ans SliceRect} {a₁ a₂ : List ℕ} → FrontsRect from a a₁ → FrontsRect from a a₂ → a₁ ≡ a₂
-  rect-front-one {a} = fronts-alone (λ r₁ r₂ p q. one-rect from a r₁ r₂ p q)
+  pub signed-front-one : (a : Ans ℤ) (v : ℤ) {v₁ v₂ : ℤ} {a₁ a₂ : List ℕ}
+      → FrontsSigned from a v v₁ a₁ → FrontsSigned from a v v₂ a₂ → (a₁ ≡ a₂) × (v₁ ≡ v₂)
+  signed-front-one a v = fronts (λ r₁ r₂ p q. let e = p .0 ∙ sym (q .0) in (e, p .1 ∙ ap (signedAfter v) e ∙ sym (q .1)))
 
-pub more-front-one : {a : Told Bool} {a₁ a₂ : List ℕ} → FrontsMore a a₁ → FrontsMore a a₂ → a₁ ≡ a₂
-more-front-one = fronts-alone (λ r₁ r₂ p q. has-more-one p q)
+pub more-front-one : (a : Told Bool) {a₁ a₂ : List ℕ} → FrontsMore a a₁ → FrontsMore a a₂ → a₁ ≡ a₂
+more-front-one a = equal-front-one
 
-pub aligned-front-one : {a : Option ℕ} {a₁ a₂ : List ℕ} → FrontsAligned a a₁ → FrontsAligned a a₂ → a₁ ≡ a₂
-aligned-front-one = fronts-alone (λ r₁ r₂ p q. byte-one p q)
+pub aligned-front-one : (a : Option ℕ) {a₁ a₂ : List ℕ} → FrontsAligned a a₁ → FrontsAligned a a₂ → a₁ ≡ a₂
+aligned-front-one a = equal-front-one
 
-pub put-front-one : {s : BitWriter} {out₁ out₂ : List ℕ} {a : Wrote} {a₁ a₂ : List ℕ} → FrontsPut s out₁ a a₁ → FrontsPut s out₂ a a₂ → (a₁ ≡ a₂) × (out₁ ≡ out₂)
-put-front-one = fronts (λ r₁ r₂ p q. write-one p q)
+pub mapped-front-one : {a : Told ℤ} {v v₁ v₂ : ℤ} {n₁ n₂ : ℕ} → FrontsMapped a v v₁ n₁ → FrontsMapped a v v₂ n₂ → (n₁ ≡ n₂) × (v₁ ≡ v₂)
+mapped-front-one {v = v} f g =
+    let e = f .call ∙ sym (g .call) in (
+      f .number-is ∙ ap (λ (r : Mapped). toldNumber (mappedAnswer r)) e ∙ sym (g .number-is),
+      f .value-is ∙ ap (mappedAfter v) e ∙ sym (g .value-is),
+    )
 
-pub mapped-front-one : {a : Told ℤ} {v₁ v₂ : ℤ} {n₁ n₂ : ℕ} → FrontsMapped a v₁ n₁ → FrontsMapped a v₂ n₂ → (n₁ ≡ n₂) × (v₁ ≡ v₂)
-mapped-front-one f g =
-    let e = golomb-to-signed-one {x = f .r} {y = g .r} (f .call) (g .call) in
-    (f .number-is ∙ ap mappedNumber e ∙ sym (g .number-is), f .value-is ∙ ap mappedValue e ∙ sym (g .value-is))
+pub put-front-one : {w p c : ℕ} {out₁ out₂ : List ℕ} {by : BitWriter → Wrote} {a₁ a₂ : List ℕ}
+    → FrontsPut w p c out₁ by a₁ → FrontsPut w p c out₂ by a₂ → (a₁ ≡ a₂) × (out₁ ≡ out₂)
+put-front-one {by = by} f g =
+    let e = f .from-is ∙ sym (g .from-is) in (
+      f .told ∙ ap putNumbers (f .call .answers ∙ ap (λ (s : BitWriter). putBack s (by s)) e ∙ sym (g .call .answers)) ∙ sym (g .told),
+      f .call .memory ∙ ap (λ (s : BitWriter). roomBack (by s)) e ∙ sym (g .call .memory),
+    )
 
 -- ---- slice groups: the ids, the answer and the three arrays beside it
 

@@ -2,7 +2,8 @@
 ghost use mathlib.Core.Path.{_≡_};
 ghost use Rattle.pps.specs.Rule.{numRefIdx};
 ghost use Rattle.pps.specs.Answer.{rectOf};
-ghost use Rattle.exports.specs.Bits.{readerAt, FrontsBits};
+ghost use Rattle.bits.specs.Reading.{readerAt};
+ghost use Rattle.exports.specs.Bits.{FrontsBits};
 ghost use Rattle.exports.specs.Groups.{pictureOf, rectNumbers, FrontsRect, changeNumber, groupNumbers, groupsNumbers, corners, arrays, FrontsGroups};
 use super::numbers::flag;
 use super::numbers::wide;
