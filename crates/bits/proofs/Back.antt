@@ -55,16 +55,16 @@ pub mapped-answer-back : (a : Told ℤ) → mappedAnswer (mappedBack a) ≡ a
 mapped-answer-back (told z) = refl
 mapped-answer-back (denied n) = refl
 
--- so, of a call that met its contract
+-- so, of a call that met its contract, and whose answer is known
 module _ (from : BitReader) where
-  pub read-answer : (a : Ans ℕ) {r : Bits} → Reads from r a → answer r ≡ a
-  read-answer a e = ap answer e ∙ answer-back from a
+  pub read-is : (a : Ans ℕ) {r x : Bits} → Reads from r a → r ≡ x → a ≡ answer x
+  read-is a e k = sym (answer-back from a) ∙ ap answer (sym e ∙ k)
 
-  pub bit-answer : (a : Ans Bool) {r : Bit} → ReadsBit from r a → bitAnswer r ≡ a
-  bit-answer a e = ap bitAnswer e ∙ bit-answer-back from a
+  pub bit-is : (a : Ans Bool) {r x : Bit} → ReadsBit from r a → r ≡ x → a ≡ bitAnswer x
+  bit-is a e k = sym (bit-answer-back from a) ∙ ap bitAnswer (sym e ∙ k)
 
-  pub skip-answer : (a : Ans Unit) {r : Moved} → Moves from r a → movedAnswer r ≡ a
-  skip-answer a e = ap movedAnswer e ∙ moved-answer-back from a
+  pub skip-is : (a : Ans Unit) {r x : Moved} → Moves from r a → r ≡ x → a ≡ movedAnswer x
+  skip-is a e k = sym (moved-answer-back from a) ∙ ap movedAnswer (sym e ∙ k)
 
 -- what `read_bit` and `read_se` make of the answers of `read` and `read_ue`
 
@@ -102,3 +102,7 @@ module _ {from : BitWriter} where
 
   pub writes-as : {r : Put} {o : List ℕ} {a b : Wrote} → Writes from r o a → a ≡ b → Writes from r o b
   writes-as w e = record { answers = w .answers ∙ ap (putBack from) e; memory = w .memory ∙ ap roomBack e }
+
+  -- two results, and two rooms, that meet the contract are one
+  pub write-one : {x y : Put} {o o′ : List ℕ} {a : Wrote} → Writes from x o a → Writes from y o′ a → (x ≡ y) × (o ≡ o′)
+  write-one p q = (p .answers ∙ sym (q .answers), p .memory ∙ sym (q .memory))

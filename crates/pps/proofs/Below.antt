@@ -1,15 +1,21 @@
 -- Single fields. Assumes nothing.
-use mathlib.Core.Path.{_≡_, refl, _∙_}
+use mathlib.Core.Path.{_≡_, refl, ap, _∙_}
 use mathlib.Core.Bool.{Bool, true, false, cond}
 use mathlib.Core.List.{List}
-use Prim.Native.Nat.{ℕ, _+_, _*_, _≤_, _<_}
+use Prim.Native.Nat.{ℕ, _+_, _*_, _%_, _≤_, _<_}
 use native.Mathlib.Nat.{mul-le-mul-left}
 use native.Mathlib.Omega.{arith}
-use borrow.Author.Tests.{ltb-true}
+use borrow.Author.Tests.{ltb-true, lt-ltb, le-ltb}
 use lib.Dec.{ltb}
-use Rattle.bits.specs.Reading.{Ans, got, no, andThen, readUe, Entered}
+use Rattle.bits.specs.Reading.{Ans, got, no, andThen, readUe, Entered, readerAt, back, Reads}
+use Rattle.bits.specs.declared.BitReader.{BitReader}
+use Rattle.bits.specs.declared.Bits.{Bits}
+use Rattle.bits.specs.declared.Bits.the-variants.{Value, Refused}
 use Rattle.bits.proofs.Reading.{ue-codes}
-use Rattle.pps.specs.Rule.{ueBelow, idBits, mostUnits}
+use Rattle.pps.specs.Rule.{ueBelow, rectangle, bottomRightOk, idBits, mostUnits}
+use Rattle.pps.specs.Answer.{ReadsRect}
+use Rattle.pps.specs.declared.Rect.{Rect}
+use Rattle.pps.specs.declared.Rect.the-variants.{Value as RValue, Refused as RRefused}
 use Rattle.pps.specs.Step.{GoodIds}
 use Rattle.pps.proofs.Ids.{id-bits-least}
 
@@ -59,3 +65,54 @@ ids-known s p n units k m q b good e eb =
       count = omega arith;
       bits = omega (arith, mul-le-mul-left (m + 1) nb);
     }
+
+-- ---- what the calls make of their fields
+
+module _ (from : BitReader) (limit k : ℕ) (s : List ℕ) where
+  abbrev Field : Bits → Type 0
+  Field r = Reads from r (ueBelow limit k s (from .at .0))
+
+  pub below-stop : (r : Bits) (j : ℕ) → r ≡ back from (readUe s (from .at .0)) → readUe s (from .at .0) ≡ no j → Field r
+  unfolding ueBelow
+  below-stop r j e f = rw f (e ∙ ap (back from) f)
+
+  module _ (v q : ℕ) (one : readUe s (from .at .0) ≡ got v q) where
+    pub below-over : limit ≤ v → Field (Refused k from)
+    unfolding ueBelow
+    below-over h = rw (one, le-ltb v limit h)
+
+    pub below-good : v < limit → Field (Value v (readerAt q))
+    unfolding ueBelow
+    below-good h = rw (one, lt-ltb v limit h)
+
+module _ (from : BitReader) (width size : ℕ) (s : List ℕ) where
+  abbrev Rectangle : Rect → Type 0
+  Rectangle r = ReadsRect from r (rectangle width size s (from .at .0))
+
+  pub rect-stop : (j i : ℕ) → readUe s (from .at .0) ≡ no j → i ≡ j → Rectangle (RRefused i from)
+  unfolding rectangle
+  rect-stop j i e f = rw (f, e)
+
+  module _ (tl q : ℕ) (one : readUe s (from .at .0) ≡ got tl q) where
+    pub rect-stop-2 : (j i : ℕ) → readUe s q ≡ no j → i ≡ j → Rectangle (RRefused i from)
+    unfolding rectangle
+    rect-stop-2 j i e f = rw (f, one, e)
+
+    module _ (br e : ℕ) (two : readUe s q ≡ got br e) where
+      pub rect-order : br < tl → Rectangle (RRefused 14 from)
+      unfolding rectangle
+      rect-order h = rw (one, two, lt-ltb br tl h)
+
+      module _ (order : tl ≤ br) where
+        pub rect-outside : bottomRightOk size br ≡ false → Rectangle (RRefused 15 from)
+        unfolding rectangle
+        rect-outside h = rw (one, two, le-ltb br tl order, h)
+
+        module _ (within : bottomRightOk size br ≡ true) where
+          pub rect-columns : br % width < tl % width → Rectangle (RRefused 14 from)
+          unfolding rectangle
+          rect-columns h = rw (one, two, le-ltb br tl order, within, lt-ltb (br % width) (tl % width) h)
+
+          pub rect-good : tl % width ≤ br % width → Rectangle (RValue (record { «top_left» = tl; «bottom_right» = br }) (readerAt e))
+          unfolding rectangle
+          rect-good h = rw (one, two, le-ltb br tl order, within, le-ltb (br % width) (tl % width) h)

@@ -9,13 +9,13 @@ use borrow.Author.Tests.{ltb-false, le-ltb}
 use lib.Dec.{ltb}
 use lib.ListN.{length, getD, take, drop, length-append}
 use lib.Seq.{take-at, drop-at}
-use Rattle.bits.specs.Reading.{Ans, got, no, bitsOf, ueCode, Stands, Entered, Took, SameBits, readBits}
+use Rattle.bits.specs.Reading.{Ans, got, no, unless, bitsOf, ueCode, Stands, Entered, Took, SameBits, readBits}
 use Rattle.bits.proofs.Codes.{length-bits-of}
 use Rattle.bits.proofs.Reading.{bits-codes}
 use Rattle.pps.specs.Rule.{badGroupCount, idBits, Fields, explicit, sliceGroups}
 use Rattle.desk.specs.Room.{written}
 use Rattle.pps.specs.Codes.{rowCode, All, groupsCode, FieldsOk, IdsStand}
-use Rattle.pps.specs.Answer.{entryFor, behind, roomed, groupsOf, idsIn}
+use Rattle.pps.specs.Answer.{entryFor, roomed, groupsOf, idsIn}
 use Rattle.pps.proofs.Below.{id-bits-few}
 use Rattle.pps.proofs.Codes.{front-stands, back-stands, groups-codes}
 use Rattle.pps.proofs.Entry.{Passed, passed, entry-passes, groups-few}
@@ -43,7 +43,7 @@ module _ (s : List ℕ) (p n width units room : ℕ) (f : Fields) (q : ℕ) wher
       fields (got g r) z w h = room-test g r z w (ltb room (length (idsIn g))) refl h
       fields (no k) z w h = absurd (let x : _≡_ {A = ℕ} 0 1 = cc in omega arith)
 
-      go : (k : ℕ) → entryFor s p room width units (badGroupCount n) ≡ k → behind k (roomed room (sliceGroups n width units s p)) ≡ got f q → Came
+      go : (k : ℕ) → entryFor s p room width units (badGroupCount n) ≡ k → unless no k (roomed room (sliceGroups n width units s p)) ≡ got f q → Came
       go zero z h = fields (sliceGroups n width units s p) z refl h
       go (suc k) z h = absurd (let x : _≡_ {A = ℕ} 0 1 = cc in omega arith)
 

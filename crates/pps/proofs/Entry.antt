@@ -9,11 +9,11 @@ use lib.Dec.{ltb, eqb, lit≤}
 use lib.ListN.{length}
 use Rattle.desk.specs.Numbers.{most, anyOver, entryOf, badGeometry, done}
 use Rattle.desk.proofs.Entering.{entry-passed, entry-done, entry-long, entry-bad}
-use Rattle.bits.specs.Reading.{Ans, no, pastEnd, Entered, size as bitsIn}
+use Rattle.bits.specs.Reading.{pastEnd, Entered, size as bitsIn}
 use Rattle.bits.proofs.Refusing.{not-past, is-past}
 use Rattle.bits.proofs.Entry.{enters}
 use Rattle.pps.specs.Rule.{mostUnits, badPicture, badGroupCount}
-use Rattle.pps.specs.Answer.{firstOf, entryFor, behind}
+use Rattle.pps.specs.Answer.{firstOf, entryFor}
 
 first-nonzero : (a b : ℕ) → (a ≡ 0 → ⊥) → firstOf a b ≡ a
 first-nonzero zero b h = absurd (h refl)
@@ -95,15 +95,6 @@ good-read s p room width size n badCount k eb e z =
     let good = passed s p room width size badCount (sym e ∙ z) in
     let count = groups-few n (sym eb ∙ good .count) in
     record { entered = good .entered; wide = good .wide; limit = good .limit; some = count .0; few = count .1 }
-
--- ---- behind them
-
-pub behind-none : {A : Type 0} (k : ℕ) (x : Ans A) → k ≡ 0 → behind k x ≡ x
-behind-none k x e = rw e
-
-pub behind-some : {A : Type 0} (k : ℕ) (x : Ans A) → (k ≡ 0 → ⊥) → behind k x ≡ no k
-behind-some zero x h = absurd (h refl)
-behind-some (suc k) x h = refl
 
 -- ---- each number, given exactly where document 01 says
 

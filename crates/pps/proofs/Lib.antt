@@ -5,7 +5,7 @@ pub mod Below
 pub mod Entry
 pub mod Results
 pub mod Local
-pub mod Unique
+pub mod Back
 pub mod Concrete
 pub mod Sheets
 pub mod Reach

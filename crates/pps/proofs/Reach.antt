@@ -7,7 +7,7 @@ use native.Mathlib.Omega.{arith}
 use lib.Dec.{lit≤, lit<}
 use lib.ListN.{length}
 use Rattle.desk.specs.Numbers.{most, anyOver}
-use Rattle.bits.specs.Reading.{got, no, readUe, Entered, long, past, OneAfter, ueEntry, ueNone, ueMany}
+use Rattle.bits.specs.Reading.{got, no, readUe, Entered, long, past, ueEntry, ueNone, ueMany}
 use Rattle.bits.proofs.Refusing.{ue-refuse}
 use Rattle.bits.proofs.Value.{value-zero}
 use Rattle.pps.specs.Rule.{mostUnits, badPicture, badGroupCount, bottomRightOk, rectangle, ueBelow, row, numRefIdx, dispersed, runLengths, rectangles, change, groupIds, byType, sliceGroups}

@@ -7,7 +7,8 @@ use native.Mathlib.Omega.{arith}
 use borrow.Author.Tests.{lt-ltb, le-ltb, ne-eqb, le-leb, lt-leb}
 use lib.ListN.{length, take}
 use Rattle.desk.specs.Numbers.{badRunLength, badChangeRate, badPicSize}
-use Rattle.bits.specs.Reading.{Ans, got, no, andThen, readUe, readBit, readBits, size, skipped, long, past, WhySkip, skipEntry, skipShort}
+use Rattle.bits.specs.Reading.{Ans, got, no, andThen, readerAt, readUe, readBit, readBits, size, skipped, long, past, WhySkip, skipEntry, skipShort}
+use Rattle.bits.proofs.Entry.{refused}
 use Rattle.bits.proofs.Reading.{skip-took, skip-refused}
 use Rattle.bits.specs.declared.BitReader.{BitReader}
 use Rattle.pps.specs.declared.Geometry.{Geometry}
@@ -18,11 +19,10 @@ use Rattle.pps.specs.declared.SliceGroup.the-variants.{Interleaved, Disp
 use Rattle.pps.specs.Rule.{badGroupCount, ueBelow, row, rectangle, idBits, groupId, Fields, interleaved, dispersed, foreground, changing, runLengths, rectangles, change, groupIds, byType, sliceGroups}
 use Rattle.pps.specs.Step.{RowSo, GoodIds, IdsFit, IdsPut}
 use Rattle.desk.specs.Room.{written}
-use Rattle.pps.specs.Answer.{entryFor, roomed, groupsOf, idsGiven, noRuns, noRects, changeType, readerAt, whole, refusal, resultOf, GroupsGiven, ReadsGroups}
+use Rattle.pps.specs.Answer.{entryFor, roomed, groupsOf, idsGiven, noRuns, noRects, changeType, whole, refusal, resultOf, GroupsGiven, ReadsGroups}
 use Rattle.pps.proofs.Rows.{row-stops, row-read, row-stands, row-length}
 use Rattle.pps.proofs.Ids.{ids-there, ids-short}
 use Rattle.pps.proofs.Below.{IdsKnown, ids-known}
-use Rattle.pps.proofs.Entry.{behind-some}
 
 -- a row that stops, or comes to its end, and what the call makes of it
 module _ (from : BitReader) (n width size : ℕ) (s : List ℕ) (p : ℕ) (r : SliceGroupRead) (i at : ℕ) where
@@ -147,7 +147,7 @@ module _ (s : List ℕ) (from : BitReader) (n : ℕ) (g : Geometry) (ids : List 
     pub read-entry : (k₀ ≡ 0 → ⊥) → r ≡ refusal from k₀ → ReadsGroups s from n g ids r ids
     unfolding groupsOf written
     read-entry h er =
-        rw (← count, sym entry, behind-some k₀ (roomed (length ids) (sliceGroups n w z s p)) h) (record { answers = er; memory = refl })
+        rw (← count, sym entry, sym (refused no k₀ k₀ refl (roomed (length ids) (sliceGroups n w z s p)) h)) (record { answers = er; memory = refl })
 
     module _ (pass : k₀ ≡ 0) where
       pub read-stop : (k j : ℕ) → readUe s p ≡ no k → j ≡ k → r ≡ refusal from j → ReadsGroups s from n g ids r ids

@@ -7,7 +7,7 @@ use mathlib.Core.Bool.{Bool, false, cond, _||_}
 use lib.ListN.{length, replicate}
 use lib.Dec.{ltb, eqb}
 use Rattle.desk.specs.Numbers.{done, noRoom, badGeometry, entryOf}
-use Rattle.bits.specs.Reading.{Ans, got, no, andThen, pastEnd}
+use Rattle.bits.specs.Reading.{Ans, got, no, andThen, unless, readerAt, backBy, pastEnd}
 use Rattle.bits.specs.declared.BitReader.{BitReader}
 use Rattle.pps.specs.declared.Geometry.{Geometry}
 use Rattle.pps.specs.declared.SliceRect.{SliceRect}
@@ -34,28 +34,21 @@ unfoldable pub entryFor : List ℕ → ℕ → ℕ → ℕ → ℕ → Bool → 
 entryFor s p room width size badCount =
     firstOf (entryOf (length s ∷ room ∷ 0 ∷ []) (pastEnd s p)) (cond (badPicture width size || badCount) badGeometry done)
 
--- a number of the entry checks, unless it is 0
-abbrev pub behind : {A : Type 0} → ℕ → Ans A → Ans A
-behind zero x = x
-behind (suc k) x = no (suc k)
-
 -- ---- a rectangle
 
 unfoldable pub rectOf : List ℕ → ℕ → ℕ → ℕ → Ans SliceRect
-rectOf s p width size = behind (entryFor s p 0 width size false) (rectangle width size s p)
+rectOf s p width size = unless no (entryFor s p 0 width size false) (rectangle width size s p)
 
 abbrev pub rectAnswer : Rect → Ans SliceRect
 rectAnswer (Value v r) = got v (r .at .0)
 rectAnswer (Refused k r) = no k
 
--- a refusal gives the reader back as it came
-abbrev pub RectSame : BitReader → Rect → Type 0
-RectSame from (Value v r) = Unit
-RectSame from (Refused k r) = r ≡ from
+-- and back. A refusal gives the reader back as it came.
+abbrev pub rectBack : BitReader → Ans SliceRect → Rect
+rectBack = backBy Value Refused
 
-pub record ReadsRect (from : BitReader) (r : Rect) (a : Ans SliceRect) : Type 0 where
-  pub answers : rectAnswer r ≡ a
-  pub same : RectSame from r
+abbrev pub ReadsRect : BitReader → Rect → Ans SliceRect → Type 0
+ReadsRect from r a = r ≡ rectBack from a
 
 -- ---- slice groups
 
@@ -72,7 +65,7 @@ roomed room x = andThen x (λ f q. cond (ltb room (length (idsIn f))) (no noRoom
 
 unfoldable pub groupsOf : List ℕ → ℕ → ℕ → ℕ → ℕ → ℕ → Ans Fields
 groupsOf s p n width size room =
-    behind (entryFor s p room width size (badGroupCount n)) (roomed room (sliceGroups n width size s p))
+    unless no (entryFor s p room width size (badGroupCount n)) (roomed room (sliceGroups n width size s p))
 
 -- the ids that are written
 abbrev pub idsGiven : Ans Fields → List ℕ
@@ -116,9 +109,6 @@ rectsOf (explicit ids) = noRects
 
 abbrev pub noGroups : SliceGroups
 noGroups = record { group = Interleaved; «num_slice_groups_minus1» = 0; «run_length_minus1» = noRuns; rectangles = noRects }
-
-abbrev pub readerAt : ℕ → BitReader
-readerAt q = record { at = record { 0 = q } }
 
 -- a read that came to its end
 abbrev pub whole : BitReader → SliceGroup → ℕ → List ℕ → List SliceRect → ℕ → SliceGroupRead

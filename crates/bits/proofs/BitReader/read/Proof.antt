@@ -36,7 +36,7 @@ unfolding readBits
 returns-3 c =
     ap (back _) {x = no _}
     (passed no _ _ (c .before .before .before .entry .ensures) (c .before .before .if1 .left)
-          (simp (le-ltb 32 _ (c .before .if2 .left), lt-ltb _ _ (c .if3 .taken))))
+    (simp (le-ltb 32 _ (c .before .if2 .left), lt-ltb _ _ (c .if3 .taken))))
 
 bits-at-requires : tie.Need-bits-at-requires
 bits-at-requires c κs = let g = ok (c .before .before) in (omega arith, omega arith, g .small)
@@ -46,7 +46,7 @@ unfolding readBits
 returns-4 c =
     ap (back _) {x = got _ _}
     (passed no _ _ (c .before .before .before .before .entry .ensures) (c .before .before .before .if1 .left)
-          (simp (le-ltb 32 _ (c .before .before .if2 .left), le-ltb _ _ (c .before .if3 .left), c .bits-at .ensures)))
+    (simp (le-ltb 32 _ (c .before .before .if2 .left), le-ltb _ _ (c .before .if3 .left), c .bits-at .ensures)))
 
 pub read-spec : {M : Type 1} → statement M
 read-spec =

@@ -1,12 +1,12 @@
-use mathlib.Core.Path.{sym, ap, _∙_}
+use mathlib.Core.Path.{ap, _∙_}
 use borrow.Author.Needs.{needs}
 use mir.Syntax.{w32}
 use mir.ValLaws.{toZ-ofZ}
 use lib.IntN.{ℤ}
 use denote.Ref.{now}
-use Rattle.bits.specs.Answer.{answer, readUe, readSe}
+use Rattle.bits.specs.Answer.{readUe, readSe}
 use Rattle.bits.proofs.Reading.{ue-codes}
-use Rattle.bits.proofs.Back.{read-answer, se-back}
+use Rattle.bits.proofs.Back.{read-is, se-back}
 use Rattle.bits.specs.declared.Signed.the-variants.{Value as SValue}
 use Rattle.bits.proofs.BitReader.read_se.Statement.{statement}
 use Rattle.bits.proofs.BitReader.read_se.Tie as tie
@@ -19,7 +19,7 @@ enum-known-k c = search needs
 
 signed-of-requires : tie.Need-signed-of-requires
 signed-of-requires c κs =
-    ue-codes .took _ _ _ _ (sym (read-answer _ _ (c .before .before .before .read-ue .ensures)) ∙ ap answer (c .before .k .given .1)) .ok
+    ue-codes .took _ _ _ _ (read-is _ _ (c .before .before .before .read-ue .ensures) (c .before .k .given .1)) .ok
 
 enum-known-n : tie.Need-enum-known-n
 enum-known-n c = search needs

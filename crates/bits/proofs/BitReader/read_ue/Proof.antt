@@ -33,7 +33,7 @@ unfolding readUe
 returns-2 c =
     ap (back _) {x = no _}
     (passed no _ _ (c .before .before .before .entry .ensures) (c .before .before .if1 .left)
-          (simp (c .before .first-one .ensures .found, le-ltb _ _ (c .if2 .taken))))
+    (simp (c .before .first-one .ensures .found, le-ltb _ _ (c .if2 .taken))))
 
 sub-zeros : tie.Need-sub-zeros
 sub-zeros c = search needs
@@ -43,7 +43,7 @@ unfolding readUe
 returns-3 c =
     ap (back _) {x = no _}
     (passed no _ _ (c .before .before .before .before .entry .ensures) (c .before .before .before .if1 .left)
-          (simp (c .before .before .first-one .ensures .found, lt-ltb _ _ (c .before .if2 .left), lt-ltb 31 _ (c .if3 .taken))))
+    (simp (c .before .before .first-one .ensures .found, lt-ltb _ _ (c .before .if2 .left), lt-ltb 31 _ (c .if3 .taken))))
 
 add-next : tie.Need-add-next
 add-next c = let g = ok (c .before .before .before) in omega arith
@@ -56,12 +56,12 @@ unfolding readUe
 returns-4 c =
     ap (back _) {x = no _}
     (passed no _ _ (c .before .before .before .before .before .entry .ensures) (c .before .before .before .before .if1 .left)
-          (simp (
-            c .before .before .before .first-one .ensures .found,
-            lt-ltb _ _ (c .before .before .if2 .left),
-            le-ltb 31 _ (c .before .if3 .left),
-            lt-ltb _ _ (c .if4 .taken),
-          )))
+    (simp (
+      c .before .before .before .first-one .ensures .found,
+      lt-ltb _ _ (c .before .before .if2 .left),
+      le-ltb 31 _ (c .before .if3 .left),
+      lt-ltb _ _ (c .if4 .taken),
+    )))
 
 -- the zeros that were passed, and 2 to their count
 abbrev zeros : tie.Else4 → ℕ
@@ -97,14 +97,14 @@ unfolding readUe
 returns-5 c =
     ap (back _) {x = got _ _}
     (passed no _ _ (c .before .before .before .before .before .before .entry .ensures) (c .before .before .before .before .before .if1 .left)
-          (simp (
-            c .before .before .before .before .first-one .ensures .found,
-            lt-ltb _ _ (c .before .before .before .if2 .left),
-            le-ltb 31 _ (c .before .before .if3 .left),
-            le-ltb _ _ (c .before .if4 .left),
-            one-shl 32 (zeros (c .before)) (few (c .before)),
-            c .bits-at .ensures,
-          )))
+    (simp (
+      c .before .before .before .before .first-one .ensures .found,
+      lt-ltb _ _ (c .before .before .before .if2 .left),
+      le-ltb 31 _ (c .before .before .if3 .left),
+      le-ltb _ _ (c .before .if4 .left),
+      one-shl 32 (zeros (c .before)) (few (c .before)),
+      c .bits-at .ensures,
+    )))
 
 pub read-ue-spec : {M : Type 1} → statement M
 read-ue-spec =

@@ -94,10 +94,10 @@ returns-2 c =
     let width : m + (m + 1) ≡ ueWidth v = omega arith in
     let value : 0 * 2 ^ (m + 1) + (v + 1) ≡ v + 1 = omega arith in
     writes (simp (lacks (e .before) ∙ e .if1 .left)
-          (c .before .before .put .ensures
-          ∙ ap (λ (x : Wrote). more x (m + 1) (v + 1)) (z .put-zeros .ensures)
-          ∙ stored-more o (a .self) m 0 (m + 1) (v + 1) (code-fits v m (l .high)) (omega arith)
-          ∙ ap₂ (λ (k x : ℕ). stored o (a .self) k x) width value))
+    (c .before .before .put .ensures
+    ∙ ap (λ (x : Wrote). more x (m + 1) (v + 1)) (z .put-zeros .ensures)
+    ∙ stored-more o (a .self) m 0 (m + 1) (v + 1) (code-fits v m (l .high)) (omega arith)
+    ∙ ap₂ (λ (k x : ℕ). stored o (a .self) k x) width value))
 
 pub put-ue-spec : {M : Type 1} → statement M
 put-ue-spec =

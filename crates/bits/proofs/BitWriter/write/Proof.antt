@@ -41,7 +41,7 @@ returns-3 c =
     let o = now (a .out) in
     let n = a .width in
     keeps (passed (λ (k : ℕ). kept k o) _ _ (c .before .before .before .entry .ensures) (c .before .before .if1 .left)
-          (simp (le-ltb 32 _ (c .before .if2 .left), le-leb (2 ^ n) (a .value) (omega (arith, one-shl 64 n (omega arith))))))
+    (simp (le-ltb 32 _ (c .before .if2 .left), le-leb (2 ^ n) (a .value) (omega (arith, one-shl 64 n (omega arith))))))
 
 put-if-room-requires : tie.Need-put-if-room-requires
 put-if-room-requires c κs =

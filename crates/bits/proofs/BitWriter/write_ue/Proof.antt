@@ -29,7 +29,7 @@ unfolding writeUe
 returns-2 c =
     let o = now (c .before .before .before .before .args .out) in
     keeps (passed (λ (k : ℕ). kept k o) _ _ (c .before .before .entry .ensures) (c .before .if1 .left)
-          (simp (le-leb 4294967295 (c .before .before .before .before .args .value) (omega arith))))
+    (simp (le-leb 4294967295 (c .before .before .before .before .args .value) (omega arith))))
 
 put-ue-requires : tie.Need-put-ue-requires
 put-ue-requires c κs = (ok (c .before .before), omega (arith, c .before .before .before .before .before .fits .value))

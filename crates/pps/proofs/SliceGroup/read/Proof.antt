@@ -1,11 +1,12 @@
 use Rattle.pps.proofs.Entry.{good-read}
-use mathlib.Core.Path.{sym, ap, _∙_}
+use mathlib.Core.Path.{ap, _∙_}
 use native.Mathlib.Omega.{arith}
 use lib.ListN.{length}
 use Rattle.bits.specs.Reading.{answer, number}
 use Rattle.bits.specs.declared.Bits.{Bits}
 use Rattle.pps.proofs.Results.{read-entry, read-stop, type-0, type-1, type-2, type-3, type-6, type-rest}
 use Rattle.pps.proofs.Below.{ue-enters}
+use Rattle.bits.proofs.Back.{read-is}
 use borrow.Author.Needs.{needs}
 use Rattle.pps.proofs.SliceGroup.read.Statement.{statement}
 use Rattle.pps.proofs.SliceGroup.read.Tie as tie
@@ -42,7 +43,7 @@ returns-2 : tie.Need-returns-2
 returns-2 c = let a = c .before .before .before .before .before .before .before .before .before .before .args in
     let told = c .before .before .enum-told .given in
     read-stop (a .s .now) (a .from) (a .num-slice-groups-minus1) (a .geometry) (a .ids .now) (c .refused2 .result) (c .before .before .before .before .before .before .before .bad-group-count .result) (c .before .before .before .before .before .before .before .bad-group-count .ensures) (c .before .before .before .before .before .before .entry .result) (c .before .before .before .before .before .before .entry .ensures) (c .before .before .before .before .before .if1 .left) (told .0 .0) (c .before .number .result)
-    (sym (c .before .before .before .before .read-ue .ensures .answers) ∙ ap answer (told .1)) (c .before .number .ensures ∙ ap (λ (x : Bits). number (answer x)) (told .1)) (c .refused2 .ensures)
+    (read-is _ _ (c .before .before .before .before .read-ue .ensures) (told .1)) (c .before .number .ensures ∙ ap (λ (x : Bits). number (answer x)) (told .1)) (c .refused2 .ensures)
 
 read-run-lengths-requires : tie.Need-read-run-lengths-requires
 read-run-lengths-requires c κs = let a = c .before .before .before .before .before .before .before .before .before .before .args in
@@ -64,7 +65,7 @@ read-group-ids-requires c κs = let a = c .before .before .before .before .befor
     (c .before .before .before .before .before .before .before .before .bad-group-count .ensures) (c .before .before .before .before .before .before .before .entry .ensures) (c .before .before .before .before .before .before .if1 .left) in
     let first = c .before .before .before .first .given in
     record {
-      entered = ue-enters (a .s .now) (a .from .at .0) (first .0 .0) (first .0 .1 .0 .at .0) (sym (c .before .before .before .before .before .read-ue .ensures .answers) ∙ ap answer (first .1));
+      entered = ue-enters (a .s .now) (a .from .at .0) (first .0 .0) (first .0 .1 .0 .at .0) (read-is _ _ (c .before .before .before .before .before .read-ue .ensures) (first .1));
       some = good .some;
       few = good .few;
       limit = good .limit;
@@ -80,19 +81,19 @@ returns-3 : tie.Need-returns-3
 returns-3 c = let a = c .before .before .before .before .before .before .before .before .before .before .before .args in
     let first = c .before .before .before .first .given in
     type-0 (a .s .now) (a .from) (a .num-slice-groups-minus1) (a .geometry) (a .ids .now) (c .read-run-lengths .result) (c .before .before .before .before .before .before .before .before .bad-group-count .result) (c .before .before .before .before .before .before .before .before .bad-group-count .ensures) (c .before .before .before .before .before .before .before .entry .result) (c .before .before .before .before .before .before .before .entry .ensures) (c .before .before .before .before .before .before .if1 .left) (first .0 .0) (first .0 .1 .0 .at .0)
-    (sym (c .before .before .before .before .before .read-ue .ensures .answers) ∙ ap answer (first .1)) (c .before .match2 .keys1) (c .read-run-lengths .ensures)
+    (read-is _ _ (c .before .before .before .before .before .read-ue .ensures) (first .1)) (c .before .match2 .keys1) (c .read-run-lengths .ensures)
 
 returns-4 : tie.Need-returns-4
 returns-4 c = let a = c .before .before .before .before .before .before .before .before .before .before .before .args in
     let first = c .before .before .before .first .given in
     type-1 (a .s .now) (a .from) (a .num-slice-groups-minus1) (a .geometry) (a .ids .now) (c .plain .result) (c .before .before .before .before .before .before .before .before .bad-group-count .result) (c .before .before .before .before .before .before .before .before .bad-group-count .ensures) (c .before .before .before .before .before .before .before .entry .result) (c .before .before .before .before .before .before .before .entry .ensures) (c .before .before .before .before .before .before .if1 .left) (first .0 .0) (first .0 .1 .0 .at .0)
-    (sym (c .before .before .before .before .before .read-ue .ensures .answers) ∙ ap answer (first .1)) (c .before .match2 .keys2) (c .plain .ensures)
+    (read-is _ _ (c .before .before .before .before .before .read-ue .ensures) (first .1)) (c .before .match2 .keys2) (c .plain .ensures)
 
 returns-5 : tie.Need-returns-5
 returns-5 c = let a = c .before .before .before .before .before .before .before .before .before .before .before .args in
     let first = c .before .before .before .first .given in
     type-2 (a .s .now) (a .from) (a .num-slice-groups-minus1) (a .geometry) (a .ids .now) (c .read-rectangles .result) (c .before .before .before .before .before .before .before .before .bad-group-count .result) (c .before .before .before .before .before .before .before .before .bad-group-count .ensures) (c .before .before .before .before .before .before .before .entry .result) (c .before .before .before .before .before .before .before .entry .ensures) (c .before .before .before .before .before .before .if1 .left) (first .0 .0) (first .0 .1 .0 .at .0)
-    (sym (c .before .before .before .before .before .read-ue .ensures .answers) ∙ ap answer (first .1)) (c .before .match2 .keys3) (c .read-rectangles .ensures)
+    (read-is _ _ (c .before .before .before .before .before .read-ue .ensures) (first .1)) (c .before .match2 .keys3) (c .read-rectangles .ensures)
 
 same-length : tie.Need-same-length
 same-length c = search needs
@@ -101,19 +102,19 @@ returns-6 : tie.Need-returns-6
 returns-6 c = let a = c .before .before .before .before .before .before .before .before .before .before .before .before .before .before .args in
     let first = c .before .before .before .before .before .before .first .given in
     type-6 (a .s .now) (a .from) (a .num-slice-groups-minus1) (a .geometry) (a .ids .now) (c .before .before .read-group-ids .result) (c .before .before .before .before .before .before .before .before .before .before .before .bad-group-count .result) (c .before .before .before .before .before .before .before .before .before .before .before .bad-group-count .ensures) (c .before .before .before .before .before .before .before .before .before .before .entry .result) (c .before .before .before .before .before .before .before .before .before .before .entry .ensures) (c .before .before .before .before .before .before .before .before .before .if1 .left) (first .0 .0) (first .0 .1 .0 .at .0)
-    (sym (c .before .before .before .before .before .before .before .before .read-ue .ensures .answers) ∙ ap answer (first .1)) (c .before .before .read-group-ids .last .1 .1 .1 .1 .1 .0) (c .before .before .before .before .match2 .keys4) (c .before .before .read-group-ids .ensures)
+    (read-is _ _ (c .before .before .before .before .before .before .before .before .read-ue .ensures) (first .1)) (c .before .before .read-group-ids .last .1 .1 .1 .1 .1 .0) (c .before .before .before .before .match2 .keys4) (c .before .before .read-group-ids .ensures)
 
 returns-7 : tie.Need-returns-7
 returns-7 c = let a = c .before .before .before .before .before .before .before .before .before .before .before .before .args in
     let first = c .before .before .before .before .first .given in
     type-3 (a .s .now) (a .from) (a .num-slice-groups-minus1) (a .geometry) (a .ids .now) (c .read-change .result) (c .before .before .before .before .before .before .before .before .before .bad-group-count .result) (c .before .before .before .before .before .before .before .before .before .bad-group-count .ensures) (c .before .before .before .before .before .before .before .before .entry .result) (c .before .before .before .before .before .before .before .before .entry .ensures) (c .before .before .before .before .before .before .before .if1 .left) (first .0 .0) (first .0 .1 .0 .at .0)
-    (sym (c .before .before .before .before .before .before .read-ue .ensures .answers) ∙ ap answer (first .1)) (omega (arith, c .before .before .match2 .rest)) (c .before .if2 .taken) (c .read-change .ensures)
+    (read-is _ _ (c .before .before .before .before .before .before .read-ue .ensures) (first .1)) (omega (arith, c .before .before .match2 .rest)) (c .before .if2 .taken) (c .read-change .ensures)
 
 returns-8 : tie.Need-returns-8
 returns-8 c = let a = c .before .before .before .before .before .before .before .before .before .before .before .before .args in
     let first = c .before .before .before .before .first .given in
     type-rest (a .s .now) (a .from) (a .num-slice-groups-minus1) (a .geometry) (a .ids .now) (c .refused3 .result) (c .before .before .before .before .before .before .before .before .before .bad-group-count .result) (c .before .before .before .before .before .before .before .before .before .bad-group-count .ensures) (c .before .before .before .before .before .before .before .before .entry .result) (c .before .before .before .before .before .before .before .before .entry .ensures) (c .before .before .before .before .before .before .before .if1 .left) (first .0 .0) (first .0 .1 .0 .at .0)
-    (sym (c .before .before .before .before .before .before .read-ue .ensures .answers) ∙ ap answer (first .1)) (c .before .if2 .left) (c .before .before .match2 .rest .1) (c .refused3 .ensures)
+    (read-is _ _ (c .before .before .before .before .before .before .read-ue .ensures) (first .1)) (c .before .if2 .left) (c .before .before .match2 .rest .1) (c .refused3 .ensures)
 
 pub read-spec : {M : Type 1} → statement M
 read-spec =

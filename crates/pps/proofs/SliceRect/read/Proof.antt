@@ -1,8 +1,9 @@
 use mathlib.Core.Path.{refl, sym, ap, _∙_}
 use mathlib.Core.Bool.{false}
-use Rattle.pps.specs.Rule.{rectangle}
-use Rattle.pps.specs.Answer.{rectOf, behind}
-use Rattle.pps.proofs.Entry.{passed, behind-none, behind-some}
+use Rattle.bits.specs.Reading.{no}
+use Rattle.bits.proofs.Entry.{refused, passed as checked}
+use Rattle.pps.specs.Answer.{rectOf, rectBack}
+use Rattle.pps.proofs.Entry.{passed}
 use borrow.Author.Needs.{needs}
 use Rattle.pps.proofs.SliceRect.read.Statement.{statement}
 use Rattle.pps.proofs.SliceRect.read.Tie as tie
@@ -12,9 +13,7 @@ entry-requires c κs = search needs
 
 returns : tie.Need-returns
 unfolding rectOf
-returns c = let a = c .before .before .before .args in
-    let x = rectangle (a .geometry .«pic_width_in_mbs») (a .geometry .«pic_size_in_map_units») (a .s .now) (a .from .at .0) in
-    record { answers = sym (behind-some _ x (c .if1 .taken)) ∙ ap (λ k. behind k x) (c .before .entry .ensures); same = refl }
+returns c = ap (rectBack _) (refused no _ _ (c .before .entry .ensures) _ (c .if1 .taken))
 
 rectangle-requires : tie.Need-rectangle-requires
 rectangle-requires c κs = let a = c .before .before .before .args in
@@ -22,8 +21,7 @@ rectangle-requires c κs = let a = c .before .before .before .args in
 
 returns-2 : tie.Need-returns-2
 unfolding rectOf
-returns-2 c = let e = c .rectangle .ensures in
-    record { answers = e .answers ∙ sym (behind-none _ _ (sym (c .before .before .entry .ensures) ∙ c .before .if1 .left)); same = e .same }
+returns-2 c = c .rectangle .ensures ∙ ap (rectBack _) (checked no _ _ (c .before .before .entry .ensures) (c .before .if1 .left) refl)
 
 pub read-spec : {M : Type 1} → statement M
 read-spec = tie.close (tie.spec entry-requires returns rectangle-requires returns-2)

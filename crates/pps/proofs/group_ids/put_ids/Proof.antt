@@ -1,12 +1,12 @@
-use mathlib.Core.Path.{sym, ap, _∙_}
 use Prim.Native.Nat.{_-_}
 use native.Mathlib.Omega.{arith}
 use lib.Pow.{pow-mono}
-use Rattle.bits.specs.Reading.{answer, readBits}
+use Rattle.bits.specs.Reading.{readBits}
 use Rattle.bits.proofs.Reading.{bits-codes}
 use Rattle.pps.specs.Step.{RowSo}
 use Rattle.pps.proofs.Rows.{row-first, row-more, row-stops}
 use Rattle.pps.proofs.Ids.{ids-there, ids-put}
+use Rattle.bits.proofs.Back.{read-is}
 use borrow.Author.Needs.{needs}
 use Rattle.pps.proofs.group_ids.put_ids.Statement.{statement}
 use Rattle.pps.proofs.group_ids.put_ids.Tie as tie
@@ -40,14 +40,14 @@ returns c = let a = c .before .before .before .before .before .before .before .a
     let narrow = fit .narrow in
     absurd (ids-there (a .width) (omega arith) (a .count) (a .s .now) (a .from .at .0) (told .0 .0) (fit .entered) (fit .bits)
     (row-stops (λ s p. readBits s p (a .width)) (a .s .now) (a .count) (a .from .at .0) (a .ids .now) (l .i) (l .ids) (l .at .at .0) (l .inv) (told .0 .0)
-    (c .before .before .before .loop-test .taken) (sym (c .before .before .read .ensures .answers) ∙ ap answer (told .1))))
+    (c .before .before .before .loop-test .taken) (read-is _ _ (c .before .before .read .ensures) (told .1))))
 
 cast-ids : tie.Need-cast-ids Inv-loop μ-loop
 cast-ids c = let a = c .before .before .before .before .before .before .before .before .args in
     let known = c .before .field .given in
     let narrow = c .before .before .before .before .before .before .before .before .pre .narrow in
     let small = bits-codes (a .width) (omega arith) .took (a .s .now) (c .before .before .before .before .before .loop .at .at .0) (known .0 .0) (known .0 .1 .0 .at .0)
-    (sym (c .before .before .before .read .ensures .answers) ∙ ap answer (known .1)) .ok in
+    (read-is _ _ (c .before .before .before .read .ensures) (known .1)) .ok in
     omega (arith, pow-mono {i = a .width} {j = 8} narrow)
 
 slice-write-ids : tie.Need-slice-write-ids Inv-loop μ-loop
@@ -64,7 +64,7 @@ loop-again c = let a = c .before .before .before .before .before .before .before
     let l = c .before .before .before .before .before .loop in
     let known = c .before .field .given in
     row-more (λ s p. readBits s p (a .width)) (a .s .now) (a .count) (a .from .at .0) (a .ids .now) (l .i) (l .ids) (l .at .at .0) (l .inv)
-    (known .0 .0) (known .0 .1 .0 .at .0) (c .before .before .before .before .loop-test .taken) (sym (c .before .before .before .read .ensures .answers) ∙ ap answer (known .1))
+    (known .0 .0) (known .0 .1 .0 .at .0) (c .before .before .before .before .loop-test .taken) (read-is _ _ (c .before .before .before .read .ensures) (known .1))
 
 same-length-2 : tie.Need-same-length-2 Inv-loop μ-loop
 same-length-2 c = c .before .loop .inv .long

@@ -1,4 +1,4 @@
-use mathlib.Core.Path.{sym, ap, _∙_}
+use mathlib.Core.Path.{ap, _∙_}
 use native.Mathlib.Omega.{arith}
 use Rattle.bits.specs.Reading.{answer, movedAnswer, number}
 use Rattle.bits.specs.declared.Bits.{Bits}
@@ -6,6 +6,7 @@ use Rattle.bits.specs.declared.Moved.{Moved}
 use Rattle.pps.proofs.Below.{ids-known}
 use Rattle.pps.proofs.Results.{ids-stop, ids-few, ids-fit, ids-no-room, ids-end}
 use Rattle.pps.specs.Answer.{refusal}
+use Rattle.bits.proofs.Back.{read-is, skip-is}
 use borrow.Author.Needs.{needs}
 use Rattle.pps.proofs.group_ids.read_group_ids.Statement.{statement}
 use Rattle.pps.proofs.group_ids.read_group_ids.Tie as tie
@@ -29,7 +30,7 @@ returns : tie.Need-returns
 returns c = let a = c .before .before .before .before .before .before .before .args in
     let told = c .before .before .enum-told .given in
     ids-stop (a .from) (a .num-slice-groups-minus1) (a .size) (a .s .now) (a .next .at .0) (a .ids .now) (c .refused .result) (told .0 .0) (c .before .number .result)
-    (sym (c .before .before .before .before .read-ue-below .ensures .answers) ∙ ap answer (told .1)) (c .before .number .ensures ∙ ap (λ (x : Bits). number (answer x)) (told .1)) (c .refused .ensures)
+    (read-is _ _ (c .before .before .before .before .read-ue-below .ensures) (told .1)) (c .before .number .ensures ∙ ap (λ (x : Bits). number (answer x)) (told .1)) (c .refused .ensures)
 
 id-bits-requires : tie.Need-id-bits-requires
 id-bits-requires c κs = search needs
@@ -38,14 +39,14 @@ add-bits : tie.Need-add-bits
 add-bits c = let a = c .before .before .before .before .before .before .before .args in
     let first = c .before .before .first .given in
     let known = ids-known (a .s .now) (a .next .at .0) (a .num-slice-groups-minus1) (a .size) 17 (first .0 .0) (first .0 .1 .0 .at .0) (c .id-bits .result) (c .before .before .before .before .before .before .before .pre)
-    (sym (c .before .before .before .before .read-ue-below .ensures .answers) ∙ ap answer (first .1)) (c .id-bits .ensures) in
+    (read-is _ _ (c .before .before .before .before .read-ue-below .ensures) (first .1)) (c .id-bits .ensures) in
     let few = known .count in omega arith
 
 mul-bits : tie.Need-mul-bits
 mul-bits c = let a = c .before .before .before .before .before .before .before .args in
     let first = c .before .before .first .given in
     let known = ids-known (a .s .now) (a .next .at .0) (a .num-slice-groups-minus1) (a .size) 17 (first .0 .0) (first .0 .1 .0 .at .0) (c .id-bits .result) (c .before .before .before .before .before .before .before .pre)
-    (sym (c .before .before .before .before .read-ue-below .ensures .answers) ∙ ap answer (first .1)) (c .id-bits .ensures) in
+    (read-is _ _ (c .before .before .before .before .read-ue-below .ensures) (first .1)) (c .id-bits .ensures) in
     let few = known .bits in omega arith
 
 skip-requires : tie.Need-skip-requires
@@ -68,8 +69,8 @@ returns-2 c = let a = c .before .before .before .before .before .before .before 
     let first = c .before .before .before .before .before .before .before .first .given in
     let told = c .before .before .enum-told3 .given in
     ids-few (a .from) (a .num-slice-groups-minus1) (a .size) (a .s .now) (a .next .at .0) (a .ids .now) (c .refused2 .result) (c .before .before .before .before .before .before .before .before .before .before .before .before .pre) (first .0 .0) (first .0 .1 .0 .at .0)
-    (sym (c .before .before .before .before .before .before .before .before .before .read-ue-below .ensures .answers) ∙ ap answer (first .1)) (c .before .before .before .before .before .id-bits .result) (c .before .before .before .before .before .id-bits .ensures) (told .0 .0) (c .before .number2 .result)
-    (sym (c .before .before .before .before .skip .ensures .answers) ∙ ap movedAnswer (told .1)) (c .before .number2 .ensures ∙ ap (λ (x : Moved). number (movedAnswer x)) (told .1)) (c .refused2 .ensures)
+    (read-is _ _ (c .before .before .before .before .before .before .before .before .before .read-ue-below .ensures) (first .1)) (c .before .before .before .before .before .id-bits .result) (c .before .before .before .before .before .id-bits .ensures) (told .0 .0) (c .before .number2 .result)
+    (skip-is _ _ (c .before .before .before .before .skip .ensures) (told .1)) (c .before .number2 .ensures ∙ ap (λ (x : Moved). number (movedAnswer x)) (told .1)) (c .refused2 .ensures)
 
 cast-count : tie.Need-cast-count
 cast-count c = search needs
@@ -84,15 +85,15 @@ returns-3 : tie.Need-returns-3
 returns-3 c = let a = c .before .before .before .before .before .before .before .before .before .before .before .before .args in
     let first = c .before .before .before .before .before .before .before .first .given in
     ids-no-room (a .from) (a .num-slice-groups-minus1) (a .size) (a .s .now) (a .next .at .0) (a .ids .now) (c .refused3 .result) (c .before .before .before .before .before .before .before .before .before .before .before .before .pre) (first .0 .0) (first .0 .1 .0 .at .0)
-    (sym (c .before .before .before .before .before .before .before .before .before .read-ue-below .ensures .answers) ∙ ap answer (first .1)) (c .before .before .before .before .before .id-bits .result) (c .before .before .before .before .before .id-bits .ensures) tt (c .before .before .enum-told2 .given .0 .0 .at .0)
-    (sym (c .before .before .before .before .skip .ensures .answers) ∙ ap movedAnswer (c .before .before .enum-told2 .given .1)) (c .before .if1 .taken) (c .refused3 .ensures)
+    (read-is _ _ (c .before .before .before .before .before .before .before .before .before .read-ue-below .ensures) (first .1)) (c .before .before .before .before .before .id-bits .result) (c .before .before .before .before .before .id-bits .ensures) tt (c .before .before .enum-told2 .given .0 .0 .at .0)
+    (skip-is _ _ (c .before .before .before .before .skip .ensures) (c .before .before .enum-told2 .given .1)) (c .before .if1 .taken) (c .refused3 .ensures)
 
 put-ids-requires : tie.Need-put-ids-requires
 put-ids-requires c κs = let a = c .before .before .before .before .before .before .before .before .before .before .before .before .args in
     let first = c .before .before .before .before .before .before .before .first .given in
     ids-fit (a .from) (a .num-slice-groups-minus1) (a .size) (a .s .now) (a .next .at .0) (a .ids .now) (refusal (a .from) 0) (c .before .before .before .before .before .before .before .before .before .before .before .before .pre) (first .0 .0) (first .0 .1 .0 .at .0)
-    (sym (c .before .before .before .before .before .before .before .before .before .read-ue-below .ensures .answers) ∙ ap answer (first .1)) (c .before .before .before .before .before .id-bits .result) (c .before .before .before .before .before .id-bits .ensures) tt (c .before .before .enum-told2 .given .0 .0 .at .0)
-    (sym (c .before .before .before .before .skip .ensures .answers) ∙ ap movedAnswer (c .before .before .enum-told2 .given .1)) (c .before .if1 .left)
+    (read-is _ _ (c .before .before .before .before .before .before .before .before .before .read-ue-below .ensures) (first .1)) (c .before .before .before .before .before .id-bits .result) (c .before .before .before .before .before .id-bits .ensures) tt (c .before .before .enum-told2 .given .0 .0 .at .0)
+    (skip-is _ _ (c .before .before .before .before .skip .ensures) (c .before .before .enum-told2 .given .1)) (c .before .if1 .left)
 
 plain-requires : tie.Need-plain-requires
 plain-requires c κs = search needs
@@ -104,7 +105,7 @@ returns-4 : tie.Need-returns-4
 returns-4 c = let a = c .before .before .before .before .before .before .before .before .before .before .before .before .before .before .before .before .args in
     let first = c .before .before .before .before .before .before .before .before .before .before .before .first .given in
     ids-end (a .from) (a .num-slice-groups-minus1) (a .size) (a .s .now) (a .next .at .0) (a .ids .now) (c .plain .result) (c .before .before .before .before .before .before .before .before .before .before .before .before .before .before .before .before .pre) (first .0 .0) (first .0 .1 .0 .at .0)
-    (sym (c .before .before .before .before .before .before .before .before .before .before .before .before .before .read-ue-below .ensures .answers) ∙ ap answer (first .1)) (c .before .before .before .before .before .before .before .before .before .id-bits .result) (c .before .before .before .before .before .before .before .before .before .id-bits .ensures) (c .before .before .before .put-ids .last .1 .1 .1 .1 .0) (c .before .before .before .put-ids .result .at .0)
+    (read-is _ _ (c .before .before .before .before .before .before .before .before .before .before .before .before .before .read-ue-below .ensures) (first .1)) (c .before .before .before .before .before .before .before .before .before .id-bits .result) (c .before .before .before .before .before .before .before .before .before .id-bits .ensures) (c .before .before .before .put-ids .last .1 .1 .1 .1 .0) (c .before .before .before .put-ids .result .at .0)
     (c .before .before .before .put-ids .ensures) (c .before .before .before .before .before .if1 .left) (c .plain .ensures)
 
 pub read-group-ids-spec : {M : Type 1} → statement M

@@ -1,8 +1,9 @@
-use mathlib.Core.Path.{sym, ap, _∙_}
+use mathlib.Core.Path.{ap, _∙_}
 use Rattle.bits.specs.Reading.{answer, bitAnswer, number}
 use Rattle.bits.specs.declared.Bits.{Bits}
 use Rattle.bits.specs.declared.Bit.{Bit}
 use Rattle.pps.proofs.Results.{flag-stop, rate-stop, change-end}
+use Rattle.bits.proofs.Back.{bit-is, read-is}
 use borrow.Author.Needs.{needs}
 use Rattle.pps.proofs.groups.read_change.Statement.{statement}
 use Rattle.pps.proofs.groups.read_change.Tie as tie
@@ -26,7 +27,7 @@ returns : tie.Need-returns
 returns c = let a = c .before .before .before .before .before .before .args in
     let told = c .before .before .enum-told .given in
     flag-stop (a .from) (a .num-slice-groups-minus1) (a .map-type) (a .size) (a .s .now) (a .next .at .0) (c .refused .result) (told .0 .0) (c .before .number .result)
-    (sym (c .before .before .before .before .read-bit .ensures .answers) ∙ ap bitAnswer (told .1)) (c .before .number .ensures ∙ ap (λ (x : Bit). number (bitAnswer x)) (told .1)) (c .refused .ensures)
+    (bit-is _ _ (c .before .before .before .before .read-bit .ensures) (told .1)) (c .before .number .ensures ∙ ap (λ (x : Bit). number (bitAnswer x)) (told .1)) (c .refused .ensures)
 
 read-ue-below-requires : tie.Need-read-ue-below-requires
 read-ue-below-requires c κs = search needs
@@ -48,7 +49,7 @@ returns-2 c = let a = c .before .before .before .before .before .before .before 
     let told = c .before .before .enum-told2 .given in
     let dir = c .before .before .before .before .before .before .direction .given in
     rate-stop (a .from) (a .num-slice-groups-minus1) (a .map-type) (a .size) (a .s .now) (a .next .at .0) (c .refused2 .result) (dir .0 .0) (dir .0 .1 .0 .at .0) (told .0 .0) (c .before .number2 .result)
-    (sym (c .before .before .before .before .before .before .before .before .read-bit .ensures .answers) ∙ ap bitAnswer (dir .1)) (sym (c .before .before .before .before .read-ue-below .ensures .answers) ∙ ap answer (told .1))
+    (bit-is _ _ (c .before .before .before .before .before .before .before .before .read-bit .ensures) (dir .1)) (read-is _ _ (c .before .before .before .before .read-ue-below .ensures) (told .1))
     (c .before .number2 .ensures ∙ ap (λ (x : Bits). number (answer x)) (told .1)) (c .refused2 .ensures)
 
 from-id-requires : tie.Need-from-id-requires
@@ -62,7 +63,7 @@ returns-3 c = let a = c .before .before .before .before .before .before .before 
     let dir = c .before .before .before .before .before .before .before .direction .given in
     let rate = c .before .before .before .rate .given in
     change-end (a .from) (a .num-slice-groups-minus1) (a .map-type) (a .size) (a .s .now) (a .next .at .0) (c .plain .result) (dir .0 .0) (dir .0 .1 .0 .at .0) (rate .0 .0) (rate .0 .1 .0 .at .0)
-    (c .before .from-id .result) (sym (c .before .before .before .before .before .before .before .before .before .read-bit .ensures .answers) ∙ ap bitAnswer (dir .1)) (sym (c .before .before .before .before .before .read-ue-below .ensures .answers) ∙ ap answer (rate .1))
+    (c .before .from-id .result) (bit-is _ _ (c .before .before .before .before .before .before .before .before .before .read-bit .ensures) (dir .1)) (read-is _ _ (c .before .before .before .before .before .read-ue-below .ensures) (rate .1))
     (c .before .from-id .ensures) (c .plain .ensures)
 
 pub read-change-spec : {M : Type 1} → statement M

@@ -10,6 +10,7 @@ use Rattle.pps.specs.declared.SliceRect.{SliceRect}
 use Rattle.pps.specs.Rule.{rectangle}
 use Rattle.pps.specs.Step.{RowSo}
 use Rattle.pps.specs.Answer.{noRects, rectAnswer}
+use Rattle.pps.proofs.Back.{rect-is}
 use borrow.Author.Needs.{needs}
 use Rattle.pps.proofs.groups.read_rectangles.Statement.{statement}
 use Rattle.pps.proofs.groups.read_rectangles.Tie as tie
@@ -50,7 +51,7 @@ returns c = let a = c .before .before .before .before .before .before .before .b
     let told = c .before .before .enum-told .given in
     rects-stop (a .from) (a .num-slice-groups-minus1) (a .geometry .«pic_width_in_mbs») (a .geometry .«pic_size_in_map_units») (a .s .now) (a .next .at .0)
     (c .refused .result) (l .i) (l .at .at .0) (l .rects) (l .inv)
-    (told .0 .0) (c .before .number .result) (c .before .before .before .before .before .loop-test .taken) (sym (c .before .before .before .before .rectangle .ensures .answers) ∙ ap rectAnswer (told .1))
+    (told .0 .0) (c .before .number .result) (c .before .before .before .before .before .loop-test .taken) (rect-is _ _ (c .before .before .before .before .rectangle .ensures) (told .1))
     (c .before .number .ensures ∙ ap (λ (x : Rect). number (rectAnswer x)) (told .1)) (c .refused .ensures)
 
 mul-rects : tie.Need-mul-rects Inv-loop μ-loop
@@ -71,7 +72,7 @@ loop-again c = let a = c .before .before .before .before .before .before .before
     let known = c .before .field .given in
     let f = rectangle (a .geometry .«pic_width_in_mbs») (a .geometry .«pic_size_in_map_units») in
     row-more f (a .s .now) (a .num-slice-groups-minus1) (a .next .at .0) noRects (l .i) (l .rects) (l .at .at .0) (l .inv)
-    (known .0 .0) (known .0 .1 .0 .at .0) (c .before .before .before .before .loop-test .taken) (sym (c .before .before .before .rectangle .ensures .answers) ∙ ap rectAnswer (known .1))
+    (known .0 .0) (known .0 .1 .0 .at .0) (c .before .before .before .before .loop-test .taken) (rect-is _ _ (c .before .before .before .rectangle .ensures) (known .1))
 
 given-requires : tie.Need-given-requires Inv-loop μ-loop
 given-requires c κs = search needs

@@ -1,6 +1,6 @@
 use Rattle.pps.proofs.Results.{runs-stop, runs-end}
 use Rattle.pps.proofs.Rows.{row-first, row-more}
-use mathlib.Core.Path.{sym, ap, _∙_}
+use mathlib.Core.Path.{ap, _∙_}
 use Prim.Native.Nat.{_+_, _-_}
 use native.Mathlib.Omega.{arith}
 use Rattle.bits.specs.Reading.{answer, number}
@@ -9,6 +9,7 @@ use Rattle.desk.specs.Numbers.{badRunLength}
 use Rattle.pps.specs.Rule.{ueBelow}
 use Rattle.pps.specs.Step.{RowSo}
 use Rattle.pps.specs.Answer.{noRuns}
+use Rattle.bits.proofs.Back.{read-is}
 use borrow.Author.Needs.{needs}
 use Rattle.pps.proofs.groups.read_run_lengths.Statement.{statement}
 use Rattle.pps.proofs.groups.read_run_lengths.Tie as tie
@@ -46,7 +47,7 @@ returns c = let a = c .before .before .before .before .before .before .before .b
     let l = c .before .before .before .before .before .before .loop in
     let told = c .before .before .enum-told .given in
     runs-stop (a .from) (a .num-slice-groups-minus1) 0 (a .size) (a .s .now) (a .next .at .0) (c .refused .result) (l .i) (l .at .at .0) (l .run-length-minus1) (l .inv)
-    (told .0 .0) (c .before .number .result) (c .before .before .before .before .before .loop-test .taken) (sym (c .before .before .before .before .read-ue-below .ensures .answers) ∙ ap answer (told .1))
+    (told .0 .0) (c .before .number .result) (c .before .before .before .before .before .loop-test .taken) (read-is _ _ (c .before .before .before .before .read-ue-below .ensures) (told .1))
     (c .before .number .ensures ∙ ap (λ (x : Bits). number (answer x)) (told .1)) (c .refused .ensures)
 
 mul-run-length-minus1 : tie.Need-mul-run-length-minus1 Inv-loop μ-loop
@@ -66,7 +67,7 @@ loop-again c = let a = c .before .before .before .before .before .before .before
     let l = c .before .before .before .before .before .loop in
     let known = c .before .field .given in
     row-more (ueBelow (a .size) badRunLength) (a .s .now) (a .num-slice-groups-minus1 + 1) (a .next .at .0) noRuns (l .i) (l .run-length-minus1) (l .at .at .0) (l .inv)
-    (known .0 .0) (known .0 .1 .0 .at .0) (c .before .before .before .before .loop-test .taken) (sym (c .before .before .before .read-ue-below .ensures .answers) ∙ ap answer (known .1))
+    (known .0 .0) (known .0 .1 .0 .at .0) (c .before .before .before .before .loop-test .taken) (read-is _ _ (c .before .before .before .read-ue-below .ensures) (known .1))
 
 no-rectangles-requires : tie.Need-no-rectangles-requires Inv-loop μ-loop
 no-rectangles-requires c κs = search needs

@@ -1,9 +1,10 @@
-use mathlib.Core.Path.{refl, sym, ap, _∙_}
-use borrow.Author.Tests.{lt-ltb, le-ltb, not-true, not-false}
+use mathlib.Core.Path.{sym, ap, _∙_}
+use borrow.Author.Needs.{needs}
+use borrow.Author.Tests.{not-true, not-false}
 use Rattle.bits.specs.Reading.{answer, number}
 use Rattle.bits.specs.declared.Bits.{Bits}
-use Rattle.pps.specs.Rule.{rectangle}
-use borrow.Author.Needs.{needs}
+use Rattle.bits.proofs.Back.{read-is}
+use Rattle.pps.proofs.Below.{rect-stop, rect-stop-2, rect-order, rect-outside, rect-columns, rect-good}
 use Rattle.pps.proofs.rectangles.rectangle.Statement.{statement}
 use Rattle.pps.proofs.rectangles.rectangle.Tie as tie
 
@@ -20,9 +21,9 @@ number-requires : tie.Need-number-requires
 number-requires c κs = search needs
 
 returns : tie.Need-returns
-unfolding rectangle
-returns c = let told = c .before .enum-told .given .1 in
-    record { answers = simp (sym (c .before .before .before .read-ue .ensures .answers) ∙ ap answer told, c .number .ensures ∙ ap (λ (x : Bits). number (answer x)) told); same = refl }
+returns c =
+    let told = c .before .enum-told .given .1 in
+    rect-stop _ _ _ _ _ _ (read-is _ _ (c .before .before .before .read-ue .ensures) told) (c .number .ensures ∙ ap (λ (x : Bits). number (answer x)) told)
 
 read-ue-requires-2 : tie.Need-read-ue-requires-2
 read-ue-requires-2 c κs = search needs
@@ -37,25 +38,31 @@ number-requires-2 : tie.Need-number-requires-2
 number-requires-2 c κs = search needs
 
 returns-2 : tie.Need-returns-2
-unfolding rectangle
-returns-2 c = let told = c .before .enum-told2 .given .1 in
-    let one = sym (c .before .before .before .before .before .before .before .read-ue .ensures .answers) ∙ ap answer (c .before .before .before .before .before .first .given .1) in
-    record { answers = simp (one, sym (c .before .before .before .read-ue2 .ensures .answers) ∙ ap answer told, c .number2 .ensures ∙ ap (λ (x : Bits). number (answer x)) told); same = refl }
+returns-2 c =
+    let f = c .before .before .before .before .before in
+    let one = read-is _ _ (f .before .before .read-ue .ensures) (f .first .given .1) in
+    let told = c .before .enum-told2 .given .1 in
+    rect-stop-2 _ _ _ _ _ _ one _ _ (read-is _ _ (c .before .before .before .read-ue2 .ensures) told)
+    (c .number2 .ensures ∙ ap (λ (x : Bits). number (answer x)) told)
 
 returns-3 : tie.Need-returns-3
-unfolding rectangle
-returns-3 c = let one = sym (c .before .before .before .before .before .before .before .before .read-ue .ensures .answers) ∙ ap answer (c .before .before .before .before .before .before .first .given .1) in
-    let two = sym (c .before .before .before .before .read-ue2 .ensures .answers) ∙ ap answer (c .before .before .second .given .1) in
-    record { answers = simp (one, two, lt-ltb _ _ (c .if1 .taken)); same = refl }
+returns-3 c =
+    let g = c .before .before in
+    let f = g .before .before .before .before in
+    let one = read-is _ _ (f .before .before .read-ue .ensures) (f .first .given .1) in
+    let two = read-is _ _ (g .before .before .read-ue2 .ensures) (g .second .given .1) in
+    rect-order _ _ _ _ _ _ one _ _ two (c .if1 .taken)
 
 bottom-right-ok-requires : tie.Need-bottom-right-ok-requires
 bottom-right-ok-requires c κs = search needs
 
 returns-4 : tie.Need-returns-4
-unfolding rectangle
-returns-4 c = let one = sym (c .before .before .before .before .before .before .before .before .before .before .read-ue .ensures .answers) ∙ ap answer (c .before .before .before .before .before .before .before .before .first .given .1) in
-    let two = sym (c .before .before .before .before .before .before .read-ue2 .ensures .answers) ∙ ap answer (c .before .before .before .before .second .given .1) in
-    record { answers = simp (one, two, le-ltb _ _ (c .before .before .if1 .left), sym (c .before .bottom-right-ok .ensures) ∙ not-true _ (c .if2 .taken)); same = refl }
+returns-4 c =
+    let g = c .before .before .before .before in
+    let f = g .before .before .before .before in
+    let one = read-is _ _ (f .before .before .read-ue .ensures) (f .first .given .1) in
+    let two = read-is _ _ (g .before .before .read-ue2 .ensures) (g .second .given .1) in
+    rect-outside _ _ _ _ _ _ one _ _ two (c .before .before .if1 .left) (sym (c .before .bottom-right-ok .ensures) ∙ not-true _ (c .if2 .taken))
 
 rem-if3 : tie.Need-rem-if3
 rem-if3 c = search needs
@@ -64,16 +71,22 @@ rem-if3-2 : tie.Need-rem-if3-2
 rem-if3-2 c = search needs
 
 returns-5 : tie.Need-returns-5
-unfolding rectangle
-returns-5 c = let one = sym (c .before .before .before .before .before .before .before .before .before .before .before .read-ue .ensures .answers) ∙ ap answer (c .before .before .before .before .before .before .before .before .before .first .given .1) in
-    let two = sym (c .before .before .before .before .before .before .before .read-ue2 .ensures .answers) ∙ ap answer (c .before .before .before .before .before .second .given .1) in
-    record { answers = simp (one, two, le-ltb _ _ (c .before .before .before .if1 .left), sym (c .before .before .bottom-right-ok .ensures) ∙ not-false _ (c .before .if2 .left), lt-ltb _ _ (c .if3 .taken)); same = refl }
+returns-5 c =
+    let g = c .before .before .before .before .before in
+    let f = g .before .before .before .before in
+    let one = read-is _ _ (f .before .before .read-ue .ensures) (f .first .given .1) in
+    let two = read-is _ _ (g .before .before .read-ue2 .ensures) (g .second .given .1) in
+    rect-columns _ _ _ _ _ _ one _ _ two (c .before .before .before .if1 .left)
+    (sym (c .before .before .bottom-right-ok .ensures) ∙ not-false _ (c .before .if2 .left)) (c .if3 .taken)
 
 returns-6 : tie.Need-returns-6
-unfolding rectangle
-returns-6 c = let one = sym (c .before .before .before .before .before .before .before .before .before .before .before .read-ue .ensures .answers) ∙ ap answer (c .before .before .before .before .before .before .before .before .before .first .given .1) in
-    let two = sym (c .before .before .before .before .before .before .before .read-ue2 .ensures .answers) ∙ ap answer (c .before .before .before .before .before .second .given .1) in
-    record { answers = simp (one, two, le-ltb _ _ (c .before .before .before .if1 .left), sym (c .before .before .bottom-right-ok .ensures) ∙ not-false _ (c .before .if2 .left), le-ltb _ _ (c .if3 .left)); same = tt }
+returns-6 c =
+    let g = c .before .before .before .before .before in
+    let f = g .before .before .before .before in
+    let one = read-is _ _ (f .before .before .read-ue .ensures) (f .first .given .1) in
+    let two = read-is _ _ (g .before .before .read-ue2 .ensures) (g .second .given .1) in
+    rect-good _ _ _ _ _ _ one _ _ two (c .before .before .before .if1 .left)
+    (sym (c .before .before .bottom-right-ok .ensures) ∙ not-false _ (c .before .if2 .left)) (c .if3 .left)
 
 pub rectangle-spec : {M : Type 1} → statement M
 rectangle-spec =
