@@ -18,7 +18,7 @@ use Rattle.bits.specs.Step.{Wrote}
 use Rattle.pps.specs.declared.Geometry.{Geometry}
 use Rattle.pps.specs.declared.SliceGroupRead.{SliceGroupRead}
 use Rattle.pps.specs.declared.SliceRect.{SliceRect}
-use Rattle.pps.proofs.Unique.{one-groups, one-rect}
+use Rattle.pps.proofs.Back.{one-groups}
 use Rattle.exports.specs.Fronts.{Fronts, lentAfter}
 use Rattle.exports.specs.Escaping.{readerOf, FrontsRead, FrontsWrite, FrontsDecode}
 use Rattle.exports.specs.Framing.{FrontsFrame}
@@ -51,13 +51,13 @@ pub frame-front-one : {a : Answer AnnexBReader} {room marks room₁ room₂ mark
     → (a₁ ≡ a₂) × ((room₁ ≡ room₂) × (marks₁ ≡ marks₂))
 frame-front-one = fronts (λ r₁ r₂ p q. let e = one-result p q in (e .0, (e .1, e .2)))
 
--- ---- bits: where the call's contract is an equation, its front leaves one answer
+-- ---- bits and rectangles: where the call's contract is an equation, its front leaves one answer
 
 pub equal-front-one : {R : Type 0} {x : R} {numbers : R → List ℕ} {a₁ a₂ : List ℕ}
     → Fronts (λ (r : R). r ≡ x) numbers a₁ → Fronts (λ (r : R). r ≡ x) numbers a₂ → a₁ ≡ a₂
 equal-front-one = fronts-alone (λ r₁ r₂ p q. p ∙ sym q)
 
--- so it is of read, read_ue, read_bit, skip, has_more_rbsp_data, byte_of, and read_num_ref_idx
+-- so it is of read, read_ue, read_bit, skip, has_more_rbsp_data, byte_of, read_num_ref_idx and read_slice_rect
 module _ (from : BitReader) where
   pub bits-front-one : (a : Ans ℕ) {a₁ a₂ : List ℕ} → FrontsBits from a a₁ → FrontsBits from a a₂ → a₁ ≡ a₂
   bits-front-one a = equal-front-one
@@ -67,6 +67,9 @@ module _ (from : BitReader) where
 
   pub moved-front-one : (a : Ans Unit) {a₁ a₂ : List ℕ} → FrontsMoved from a a₁ → FrontsMoved from a a₂ → a₁ ≡ a₂
   moved-front-one a = equal-front-one
+
+  pub rect-front-one : (a : Ans SliceRect) {a₁ a₂ : List ℕ} → FrontsRect from a a₁ → FrontsRect from a a₂ → a₁ ≡ a₂
+  rect-front-one a = equal-front-one
 
   pub signed-front-one : (a : Ans ℤ) (v : ℤ) {v₁ v₂ : ℤ} {a₁ a₂ : List ℕ}
       → FrontsSigned from a v v₁ a₁ → FrontsSigned from a v v₂ a₂ → (a₁ ≡ a₂) × (v₁ ≡ v₂)

@@ -1,4 +1,6 @@
 use borrow.Author.Needs.{needs}
+use mir.Syntax.{w32}
+use mir.ValLaws.{toZ-ofZ}
 use Rattle.exports.proofs.reading.dampfeather_read_se.Statement.{statement}
 use Rattle.exports.proofs.reading.dampfeather_read_se.Tie as tie
 
@@ -15,10 +17,22 @@ enum-told : tie.Need-enum-told
 enum-told c = search needs
 
 returns : tie.Need-returns
-returns c = ?
+returns c =
+    let read = c .before .before .before in
+    record {
+      r = read .read-se .result;
+      call = (read .read-se .ensures, rw (c .enum-told .given .1));
+      told = c .before .before .signed-numbers .ensures;
+    }
 
 returns-2 : tie.Need-returns-2
-returns-2 c = ?
+returns-2 c =
+    let read = c .before .before .before .before in
+    record {
+      r = read .read-se .result;
+      call = (read .read-se .ensures, rw (toZ-ofZ w32 (c .before .r .given .0 .0) (record { sfits = c .known-told .given .0 .1 }), c .before .r .given .1));
+      told = c .before .before .before .signed-numbers .ensures;
+    }
 
 pub dampfeather-read-se-spec : {M : Type 1} → statement M
 dampfeather-read-se-spec =

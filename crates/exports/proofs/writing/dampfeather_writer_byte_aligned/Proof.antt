@@ -9,7 +9,7 @@ byte-aligned-requires : tie.Need-byte-aligned-requires
 byte-aligned-requires c κs = search needs
 
 returns : tie.Need-returns
-returns c = ?
+returns c = rw (c .byte-aligned .ensures, c .before .writer-of .ensures)
 
 pub dampfeather-writer-byte-aligned-spec : {M : Type 1} → statement M
 dampfeather-writer-byte-aligned-spec =
