@@ -27,12 +27,10 @@ use Rattle.exports.specs.Bits.{FrontsMapped, mappedAfter, FrontsPut, put
 use Rattle.exports.specs.Groups.{Arrays, arraysOf, FrontsRect, FrontsGroups, groupsNumbers}
 
 -- where two answers of the fronted call are one, and memory too (M), so are the numbers
-fronts : {R M : Type 0} {Call₁ Call₂ : R → Type 0} {numbers : R → List ℕ} {a₁ a₂ : List ℕ} → ((r₁ r₂ : R) → Call₁ r₁ → Call₂ r₂ → (r₁ ≡ r₂) × M) → Fronts Call₁ numbers a₁ → Fronts Call₂ numbers a₂ → (a₁ ≡ a₂) × M
-fronts {R} {M} {Call₁} {Call₂} {numbers} one f g = let e = one (f .r) (g .r) (f .call) (g .call) in (f .told ∙ ap numbers (e .0) ∙ sym (g .told), e .1)
-
--- the same where the call is lent no memory
-fronts-alone : {R : Type 0} {Call : R → Type 0} {numbers : R → List ℕ} {a₁ a₂ : List ℕ} → ((r₁ r₂ : R) → Call r₁ → Call r₂ → r₁ ≡ r₂) → Fronts Call numbers a₁ → Fronts Call numbers a₂ → a₁ ≡ a₂
-fronts-alone {R} {Call} {numbers} one f g = f .told ∙ ap numbers (one (f .r) (g .r) (f .call) (g .call)) ∙ sym (g .told)
+fronts : {R M : Type 0} {Call₁ Call₂ : R → Type 0} {numbers : R → List ℕ} {a₁ a₂ : List ℕ}
+    → ((r₁ r₂ : R) → Call₁ r₁ → Call₂ r₂ → (r₁ ≡ r₂) × M) → Fronts Call₁ numbers a₁ → Fronts Call₂ numbers a₂ → (a₁ ≡ a₂) × M
+fronts {numbers = numbers} one f g =
+    let e = one (f .r) (g .r) (f .call) (g .call) in (f .told ∙ ap numbers (e .0) ∙ sym (g .told), e .1)
 
 -- ---- escaping and framing
 
@@ -41,13 +39,16 @@ pub read-front-one : (zeros skip : ℕ) (three : Bool) (chunk out out₁ out₂ 
 read-front-one zeros skip three chunk out out₁ out₂ a₁ a₂ =
     fronts (λ r₁ r₂ p q. read-push-one (readerOf zeros skip three) chunk out out₁ out₂ r₁ r₂ p q)
 
-pub write-front-one : (s : ByteWriter) (chunk out out₁ out₂ a₁ a₂ : List ℕ) → FrontsWrite s chunk out out₁ a₁ → FrontsWrite s chunk out out₂ a₂ → (a₁ ≡ a₂) × (out₁ ≡ out₂)
+pub write-front-one : (s : ByteWriter) (chunk out out₁ out₂ a₁ a₂ : List ℕ)
+    → FrontsWrite s chunk out out₁ a₁ → FrontsWrite s chunk out out₂ a₂ → (a₁ ≡ a₂) × (out₁ ≡ out₂)
 write-front-one s chunk out out₁ out₂ a₁ a₂ = fronts (λ r₁ r₂ p q. write-push-one s chunk out out₁ out₂ r₁ r₂ p q)
 
-pub decode-front-one : {nal room room₁ room₂ a₁ a₂ : List ℕ} → FrontsDecode nal room room₁ a₁ → FrontsDecode nal room room₂ a₂ → (a₁ ≡ a₂) × (room₁ ≡ room₂)
+pub decode-front-one : {nal room room₁ room₂ a₁ a₂ : List ℕ}
+    → FrontsDecode nal room room₁ a₁ → FrontsDecode nal room room₂ a₂ → (a₁ ≡ a₂) × (room₁ ≡ room₂)
 decode-front-one {nal} {room} {room₁} {room₂} = fronts (λ r₁ r₂ p q. decode-one nal room room₁ room₂ r₁ r₂ p q)
 
-pub frame-front-one : {a : Answer AnnexBReader} {room marks room₁ room₂ marks₁ marks₂ a₁ a₂ : List ℕ} → FrontsFrame a room marks room₁ marks₁ a₁ → FrontsFrame a room marks room₂ marks₂ a₂
+pub frame-front-one : {a : Answer AnnexBReader} {room marks room₁ room₂ marks₁ marks₂ a₁ a₂ : List ℕ}
+    → FrontsFrame a room marks room₁ marks₁ a₁ → FrontsFrame a room marks room₂ marks₂ a₂
     → (a₁ ≡ a₂) × ((room₁ ≡ room₂) × (marks₁ ≡ marks₂))
 frame-front-one = fronts (λ r₁ r₂ p q. let e = one-result p q in (e .0, (e .1, e .2)))
 
@@ -55,7 +56,7 @@ frame-front-one = fronts (λ r₁ r₂ p q. let e = one-result p q in (e .0, (e 
 
 pub equal-front-one : {R : Type 0} {x : R} {numbers : R → List ℕ} {a₁ a₂ : List ℕ}
     → Fronts (λ (r : R). r ≡ x) numbers a₁ → Fronts (λ (r : R). r ≡ x) numbers a₂ → a₁ ≡ a₂
-equal-front-one = fronts-alone (λ r₁ r₂ p q. p ∙ sym q)
+equal-front-one {numbers = numbers} f g = f .told ∙ ap numbers (f .call ∙ sym (g .call)) ∙ sym (g .told)
 
 -- so it is of read, read_ue, read_bit, skip, has_more_rbsp_data, byte_of, read_num_ref_idx and read_slice_rect
 module _ (from : BitReader) where

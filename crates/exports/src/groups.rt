@@ -4,7 +4,8 @@ ghost use Rattle.pps.specs.Rule.{numRefIdx};
 ghost use Rattle.pps.specs.Answer.{rectOf};
 ghost use Rattle.bits.specs.Reading.{readerAt};
 ghost use Rattle.exports.specs.Bits.{FrontsBits};
-ghost use Rattle.exports.specs.Groups.{pictureOf, rectNumbers, FrontsRect, changeNumber, groupNumbers, groupsNumbers, corners, arrays, FrontsGroups};
+ghost use Rattle.exports.specs.Groups.{pictureOf, rectNumbers, FrontsRect, changeNumber, groupNumbers, groupsNumbers, corners};
+ghost use Rattle.exports.specs.Groups.{arrays, FrontsGroups};
 use super::numbers::flag;
 use super::numbers::wide;
 use super::numbers::wide_u32;
@@ -137,8 +138,9 @@ fn corners(rects: [SliceRect; 7]) -> [u32; 14]
     ]
 }
 
-// SliceGroup::read. The answer: number, the place behind the last field, num_slice_groups_minus1, and the count of ids written. The group: its map type,
-// the direction, the rate, and pic_size_in_map_units_minus1. The run lengths; and the corners of each rectangle in turn. A refusal writes the answer alone.
+// SliceGroup::read. The answer: number, the place behind the last field, num_slice_groups_minus1, and the count of ids written. The group: its
+// map type, the direction, the rate, and pic_size_in_map_units_minus1. The run lengths; and the corners of each rectangle in turn. A refusal
+// writes the answer alone.
 #[no_mangle]
 pub extern "C" fn dampfeather_read_slice_groups(
     at: usize,

@@ -51,7 +51,8 @@ pub extern "C" fn dampfeather_write(
     value: u32,
     answer: &mut [u64; 4],
 )
-    ensures { λ _. ⌜ FrontsPut written pending count (now (out .exit)) (λ from. writeBits (now (out .entry)) from width value) (now (answer .exit)) ⌝ }
+    ensures { λ _. ⌜ FrontsPut written pending count (now (out .exit)) (λ from. writeBits (now (out .entry)) from width value)
+        (now (answer .exit)) ⌝ }
 {
     let writer = writer_of(written, pending, count);
     let r = writer.write(out, width, value);

@@ -40,8 +40,9 @@ wide-requires-6 c κs = search needs
 
 returns-2 : tie.Need-returns-2
 returns-2 c =
-    let b = c .before .before .before .before .before .before in
-    rw (ne-eqb (b .before .before .args .r .taken) 0 (b .if1 .left), c .before .wide3 .ensures, c .wide4 .ensures, c .before .before .before .state .given .1)
+    let told = c .before .before .before in
+    let b = told .before .before .before in
+    rw (ne-eqb (b .before .before .args .r .taken) 0 (b .if1 .left), c .before .wide3 .ensures, c .wide4 .ensures, told .state .given .1)
 
 returns-3 : tie.Need-returns-3
 returns-3 c =

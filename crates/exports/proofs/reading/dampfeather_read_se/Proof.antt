@@ -28,9 +28,10 @@ returns c =
 returns-2 : tie.Need-returns-2
 returns-2 c =
     let read = c .before .before .before .before in
+    let value = c .before .r .given in
     record {
       r = read .read-se .result;
-      call = (read .read-se .ensures, rw (toZ-ofZ w32 (c .before .r .given .0 .0) (record { sfits = c .known-told .given .0 .1 }), c .before .r .given .1));
+      call = (read .read-se .ensures, rw (toZ-ofZ w32 (value .0 .0) (record { sfits = c .known-told .given .0 .1 }), value .1));
       told = c .before .before .before .signed-numbers .ensures;
     }
 
