@@ -1,6 +1,6 @@
--- A REFUSAL WRITES ITS ANSWER AND NOTHING ELSE. Where an exported function tells a number other than 0, whatever else it was lent is as it came, and behind
--- the number stand the place or the state as it came, and 0 for everything else. Number 7 is told apart: a push of the byte reader has then taken and
--- delivered all before the forbidden byte, and decode_nal tells that byte's index.
+-- A REFUSAL WRITES ITS ANSWER AND NOTHING ELSE. Where an exported function tells a number other than 0, whatever else it was lent is as it
+-- came, and behind the number stand the place or the state as it came, and 0 for everything else. Number 7 is told apart: a push of the byte
+-- reader has then taken and delivered all before the forbidden byte, and decode_nal tells that byte's index.
 use Prim.Native.Nat.{ℕ, zero, suc}
 use mathlib.Core.Path.{_≡_, refl, sym, ap, subst, _∙_}
 use mathlib.Core.Bool.{Bool, true, false, cond}
@@ -9,6 +9,7 @@ use mathlib.Core.Option.{Option, none, some}
 use native.Mathlib.Omega.{arith}
 use lib.ListN.{length, drop, getD}
 use lib.Dec.{eqb, ltb}
+use lib.IntN.{ℤ}
 use Rattle.desk.specs.Numbers.{anyOver}
 use Rattle.desk.specs.Search.{is3, first}
 use Rattle.desk.specs.Push.{Out, Next, Answer, answers, took, fits, run, pushOf, Gives}
@@ -30,8 +31,25 @@ use Rattle.annexb.specs.declared.AnnexBReader.{AnnexBReader}
 use Rattle.annexb.specs.Answer.{pushAnswer, resetAnswer, entering}
 use Rattle.annexb.proofs.Laws.{push-kept, push-number}
 use Rattle.annexb.proofs.Completing.{reset-kept}
+use Rattle.bits.specs.declared.BitReader.{BitReader}
+use Rattle.bits.specs.declared.BitWriter.{BitWriter}
+use Rattle.bits.specs.declared.Mapped.{Mapped}
+use Rattle.bits.specs.declared.Put.{Put}
+use Rattle.bits.specs.Rule.{trailingBits}
+use Rattle.bits.specs.Answer.{Ans, got, no, Told, told, denied, toldNumber, mappedAnswer, Writes}
+use Rattle.bits.specs.Writing.{Wrote, wrote, kept, WriteMeans, Field, codeOf, HasCode, without, writeField, writeTrailing}
+use Rattle.bits.proofs.Writing.{field-means, trailing-means}
+use Rattle.pps.specs.declared.Geometry.{Geometry}
+use Rattle.pps.specs.declared.SliceRect.{SliceRect}
+use Rattle.pps.specs.declared.SliceGroupRead.{SliceGroupRead}
+use Rattle.pps.specs.Rule.{Fields}
+use Rattle.pps.specs.Answer.{GroupsGiven}
 use Rattle.exports.specs.Escaping.{readerOf, readState, readNumbers, FrontsRead, FrontsWrite, decodeNumbers, FrontsDecode}
 use Rattle.exports.specs.Framing.{FrontsFrame, FrontsPush, FrontsReset}
+use Rattle.exports.specs.Bits.{bitsNumbers, FrontsBits, bitNumbers, FrontsBit, movedNumbers, FrontsMoved, moreNumbers, FrontsMore}
+use Rattle.exports.specs.Bits.{signedNumbers, signedAfter, FrontsSigned, mappedAfter, FrontsMapped, putState, putNumbers, FrontsPut}
+use Rattle.exports.specs.Groups.{rectNumbers, FrontsRect, groupsNumbers, Arrays, arraysOf, FrontsGroups}
+use Rattle.exports.proofs.Lent.{lent-kept}
 
 -- what stands behind the number of an answer
 behind : {n : ℕ} {rest l : List ℕ} → n ∷ rest ≡ l → rest ≡ drop 1 l
@@ -49,7 +67,8 @@ module _ {S : Type 0} (next : Next S) (Q : ℕ → Type 0) (Q0 : Q 0) (Q7 : (s :
   run-number w m a [] q z = subst (λ (x : Answer S). Q (x .number)) (sym (run-ends next w m a)) q
   run-number w m a (b ∷ bs) q z = go (next (a .after) b) refl (λ o. run-number w m (took a o) bs q z)
     where
-      go : (r : Option (Out S)) → next (a .after) b ≡ r → ((o : Out S) → Q (run next w m (took a o) bs .number)) → Q (run next w m a (b ∷ bs) .number)
+      go : (r : Option (Out S)) → next (a .after) b ≡ r
+          → ((o : Out S) → Q (run next w m (took a o) bs .number)) → Q (run next w m a (b ∷ bs) .number)
       go none e ih = subst (λ (x : Answer S). Q (x .number)) (sym (run-forbidden next w m a b bs e)) (Q7 (a .after) b e)
       go (some o) e ih = fit (fits w m a o) refl
         where
@@ -98,7 +117,8 @@ module _ (zeros skip : ℕ) (three : Bool) (r : Pushed) where
   read-nothing : r .taken ≡ 0 → r .written ≡ 0 → readNumbers zeros skip three r ≡ r .number ∷ 0 ∷ 0 ∷ zeros ∷ skip ∷ cond three 1 0 ∷ []
   read-nothing t w = rw (t, w)
 
-pub read-refused : (zeros skip : ℕ) (three : Bool) (chunk out out′ : List ℕ) {n : ℕ} {rest : List ℕ} → FrontsRead zeros skip three chunk out out′ (n ∷ rest)
+pub read-refused : (zeros skip : ℕ) (three : Bool) (chunk out out′ : List ℕ) {n : ℕ} {rest : List ℕ}
+    → FrontsRead zeros skip three chunk out out′ (n ∷ rest)
     → (n ≡ 0 → ⊥) → (n ≡ 7 → ⊥) → (rest ≡ 0 ∷ 0 ∷ zeros ∷ skip ∷ cond three 1 0 ∷ []) × (out′ ≡ out)
 read-refused zeros skip three chunk out out′ {n} {rest} f no0 no7 =
     let s = readerOf zeros skip three in
@@ -155,7 +175,9 @@ pub decode-refused : (nal room room′ : List ℕ) {n : ℕ} {rest : List ℕ} �
     → (n ≡ 0 → ⊥) → ((n ≡ 7 → ⊥) → rest ≡ 0 ∷ 0 ∷ []) × (room′ ≡ room)
 decode-refused nal room room′ {n} {rest} f no0 = (
   λ no7. of (f .r) (f .told) no7,
-  f .call .room-is ∙ ap (written room) (decode-none nal (length room) (λ z. no0 (number (f .r) (f .told) ∙ f .call .number-is ∙ z))) ∙ sym (written-none room),
+  f .call .room-is
+      ∙ ap (written room) (decode-none nal (length room) (λ z. no0 (number (f .r) (f .told) ∙ f .call .number-is ∙ z)))
+      ∙ sym (written-none room),
 )
   where
     number : (r : Decoded) → n ∷ rest ≡ decodeNumbers r → n ≡ numberOf r
@@ -187,10 +209,91 @@ module _ (s : AnnexBReader) (room marks room′ marks′ : List ℕ) {n : ℕ} {
   pub frame-push-refused : (chunk : List ℕ) → FrontsPush s chunk room marks room′ marks′ (n ∷ rest)
       → (rest ≡ 0 ∷ 0 ∷ 0 ∷ cond (s .«in_unit») 1 0 ∷ s .zeros ∷ []) × ((room′ ≡ room) × (marks′ ≡ marks))
   frame-push-refused chunk f =
-      frame-refused
-      (push-kept s chunk (length room) (length marks) (λ z. no0 (head (f .told) ∙ f .call .number-is ∙ push-number s chunk (length room) (length marks) ∙ z)))
-      f
+      let w = length room in
+      let m = length marks in
+      frame-refused (push-kept s chunk w m (λ z. no0 (head (f .told) ∙ f .call .number-is ∙ push-number s chunk w m ∙ z))) f
 
   pub frame-reset-refused : FrontsReset s room marks room′ marks′ (n ∷ rest)
       → (rest ≡ 0 ∷ 0 ∷ 0 ∷ cond (s .«in_unit») 1 0 ∷ s .zeros ∷ []) × ((room′ ≡ room) × (marks′ ≡ marks))
   frame-reset-refused f = frame-refused (reset-kept s (length room) (length marks) (λ z. no0 (head (f .told) ∙ f .call .number-is ∙ z))) f
+
+-- ---- bits and rectangles: by what the call gives
+
+module _ (from : BitReader) {n : ℕ} {rest : List ℕ} (no0 : n ≡ 0 → ⊥) where
+  pub bits-refused : (a : Ans ℕ) → FrontsBits from a (n ∷ rest) → rest ≡ 0 ∷ from .at .0 ∷ []
+  bits-refused (got v q) f = absurd (no0 (head (f .told ∙ ap bitsNumbers (f .call))))
+  bits-refused (no k) f = behind (f .told ∙ ap bitsNumbers (f .call))
+
+  pub bit-refused : (a : Ans Bool) → FrontsBit from a (n ∷ rest) → rest ≡ 0 ∷ from .at .0 ∷ []
+  bit-refused (got v q) f = absurd (no0 (head (f .told ∙ ap bitNumbers (f .call))))
+  bit-refused (no k) f = behind (f .told ∙ ap bitNumbers (f .call))
+
+  pub moved-refused : (a : Ans Unit) → FrontsMoved from a (n ∷ rest) → rest ≡ from .at .0 ∷ []
+  moved-refused (got v q) f = absurd (no0 (head (f .told ∙ ap movedNumbers (f .call))))
+  moved-refused (no k) f = behind (f .told ∙ ap movedNumbers (f .call))
+
+  pub signed-refused : (a : Ans ℤ) (v v′ : ℤ) → FrontsSigned from a v v′ (n ∷ rest) → (rest ≡ from .at .0 ∷ []) × (v′ ≡ v)
+  signed-refused (got z q) v v′ f = absurd (no0 (head (f .told ∙ ap signedNumbers (f .call .0))))
+  signed-refused (no k) v v′ f = (behind (f .told ∙ ap signedNumbers (f .call .0)), f .call .1 ∙ ap (signedAfter v) (f .call .0))
+
+  pub rect-refused : (a : Ans SliceRect) → FrontsRect from a (n ∷ rest) → rest ≡ from .at .0 ∷ 0 ∷ 0 ∷ []
+  rect-refused (got v q) f = absurd (no0 (head (f .told ∙ ap rectNumbers (f .call))))
+  rect-refused (no k) f = behind (f .told ∙ ap rectNumbers (f .call))
+
+pub more-refused : {n : ℕ} {rest : List ℕ} → (n ≡ 0 → ⊥) → (a : Told Bool) → FrontsMore a (n ∷ rest) → rest ≡ 0 ∷ []
+more-refused no0 (told true) f = absurd (no0 (head (f .told ∙ ap moreNumbers (f .call))))
+more-refused no0 (told false) f = absurd (no0 (head (f .told ∙ ap moreNumbers (f .call))))
+more-refused no0 (denied k) f = behind (f .told ∙ ap moreNumbers (f .call))
+
+pub mapped-refused : {n : ℕ} → (n ≡ 0 → ⊥) → (a : Told ℤ) (v v′ : ℤ) → FrontsMapped a v v′ n → v′ ≡ v
+mapped-refused no0 (told z) v v′ f = absurd (no0 (f .number-is ∙ ap (λ (r : Mapped). toldNumber (mappedAnswer r)) (f .call)))
+mapped-refused no0 (denied k) v v′ f = f .value-is ∙ ap (mappedAfter v) (f .call)
+
+-- ---- writing bits
+
+-- a refused write keeps the room
+abbrev KeepsRoom : List ℕ → Wrote → Type 0
+KeepsRoom out (wrote st o) = Unit
+KeepsRoom out (kept k o) = o ≡ out
+
+means-keeps : (out : List ℕ) (st : BitWriter) (code : List ℕ) (Has : Type 0) (without : ℕ) (a : Wrote)
+    → WriteMeans out st code Has without a → KeepsRoom out a
+means-keeps out st code Has without (wrote st′ o) h = tt
+means-keeps out st code Has without (kept k o) h = h .0
+
+put-kept : {from : BitWriter} {r : Put} {out out′ : List ℕ} {n : ℕ} {rest : List ℕ} → (n ≡ 0 → ⊥) → n ∷ rest ≡ putNumbers r
+    → (a : Wrote) → KeepsRoom out a → Writes from r out′ a → (rest ≡ drop 1 (putState 0 from)) × (out′ ≡ out)
+put-kept no0 t (wrote st o) k c = absurd (no0 (head (t ∙ ap putNumbers (c .answers))))
+put-kept no0 t (kept j o) k c = (behind (t ∙ ap putNumbers (c .answers)), c .memory ∙ k)
+
+module _ (w p c : ℕ) (out out′ : List ℕ) {n : ℕ} {rest : List ℕ} (no0 : n ≡ 0 → ⊥) where
+  put-refused : (by : BitWriter → Wrote) → ((s : BitWriter) → KeepsRoom out (by s)) → FrontsPut w p c out′ by (n ∷ rest)
+      → (rest ≡ w ∷ p ∷ c ∷ []) × (out′ ≡ out)
+  put-refused by keeps f =
+      let e = put-kept no0 (f .told) (by (f .from)) (keeps (f .from)) (f .call) in
+      (e .0 ∙ ap (λ (s : BitWriter). drop 1 (putState 0 s)) (f .from-is), e .1)
+
+  -- write, write_bit, write_ue and write_se
+  pub field-refused : (f : Field) → FrontsPut w p c out′ (λ s. writeField out s f) (n ∷ rest) → (rest ≡ w ∷ p ∷ c ∷ []) × (out′ ≡ out)
+  field-refused f =
+      put-refused (λ s. writeField out s f)
+      (λ s. means-keeps out s (codeOf f) (HasCode f) (without f) (writeField out s f) (field-means out s f))
+
+  pub trailing-refused : FrontsPut w p c out′ (λ s. writeTrailing out s) (n ∷ rest) → (rest ≡ w ∷ p ∷ c ∷ []) × (out′ ≡ out)
+  trailing-refused =
+      put-refused (λ s. writeTrailing out s)
+      (λ s. means-keeps out s (trailingBits (s .count)) Unit 0 (writeTrailing out s) (trailing-means out s))
+
+-- ---- slice groups
+
+groups-kept : {from : BitReader} {m : ℕ} {ids ids′ : List ℕ} {r : SliceGroupRead} {n : ℕ} {rest : List ℕ} → (n ≡ 0 → ⊥)
+    → n ∷ rest ≡ groupsNumbers r → (a : Ans Fields) → GroupsGiven from m a ids r ids′ → (rest ≡ from .at .0 ∷ 0 ∷ 0 ∷ []) × (ids′ ≡ ids)
+groups-kept no0 t (got f q) g = absurd (no0 (head (t ∙ ap groupsNumbers (g .answers))))
+groups-kept {ids = ids} no0 t (no k) g = (behind (t ∙ ap groupsNumbers (g .answers)), g .memory ∙ sym (written-none ids))
+
+pub groups-refused : (s : List ℕ) (from : BitReader) (m : ℕ) (g : Geometry) (ids ids′ : List ℕ) (lent lent′ : Arrays) {n : ℕ} {rest : List ℕ}
+    → (n ≡ 0 → ⊥) → FrontsGroups s from m g ids lent ids′ (n ∷ rest) lent′
+    → (rest ≡ from .at .0 ∷ 0 ∷ 0 ∷ []) × ((ids′ ≡ ids) × (lent′ ≡ lent))
+groups-refused s from m g ids ids′ lent lent′ no0 f =
+    let e = groups-kept no0 (f .told) _ (f .call) in
+    (e .0, (e .1, f .filled ∙ sym (lent-kept (f .r .number) (arraysOf (f .r .groups)) (λ z. no0 (head (f .told) ∙ z)))))
