@@ -166,7 +166,7 @@ static void reading_bits(void) {
 
 static void signed_values(void) {
     int32_t *value = LENT(int32_t, OLD);
-    dampfeather_read_se(1, BYTES(0x0F), value, ASK(2));
+    dampfeather_read_se(1, BYTES(0x07), value, ASK(2));
     TOLD(DAMPFEATHER_BITS_RUN_OUT, 1);
     IS(dampfeather_golomb_to_signed(UINT32_MAX, value), DAMPFEATHER_NO_CODE);
     HOLDS(value, int32_t, OLD);
