@@ -3,7 +3,8 @@ use mathlib.Core.Path.{_≡_, refl, sym, ap, ap₂, _∙_, subst}
 use mathlib.Core.List.{List, [], _∷_, _++_, append-assoc, append-nil}
 use mathlib.Core.Logic.{_⊎_, inl, inr, dite}
 use Prim.Native.Nat.{ℕ, zero, suc, _+_, _-_, _*_, _/_, _%_, _^_, _≤_, _<_}
-use native.Mathlib.Nat.{lt-of-lt-of-le, div-one, pow-suc, add-zero, add-suc, div-eq-of-lt, div-eq-of-lt-le, div-add-mod', le-of-suc-le-suc, eq-or-lt-of-le}
+use native.Mathlib.Nat.{lt-of-lt-of-le, div-one, pow-suc, add-zero, add-suc, div-eq-of-lt, div-eq-of-lt-le, div-add-mod', le-of-suc-le-suc}
+use native.Mathlib.Nat.{eq-or-lt-of-le}
 use native.Mathlib.Numerals.{add-one, one-add}
 use native.Mathlib.Decide.{decLt}
 use native.Mathlib.Omega.{arith}

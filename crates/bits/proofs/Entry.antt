@@ -68,7 +68,7 @@ why-entry {s} {p} (past h l) = entry-bad (length s ∷ 0 ∷ 0 ∷ []) (ltb (siz
 
 -- ---- a writer's
 
-neither : (a b : Bool) → (a || b) ≡ false → (a ≡ false) × (b ≡ false)
+pub neither : (a b : Bool) → (a || b) ≡ false → (a ≡ false) × (b ≡ false)
 neither false false h = (refl, refl)
 neither false true h = absurd (let z : _≡_ {A = ℕ} 0 1 = cc in omega arith)
 neither true b h = absurd (let z : _≡_ {A = ℕ} 0 1 = cc in omega arith)
@@ -102,6 +102,7 @@ module _ {A : Type 0} (refuse : ℕ → A) (e k : ℕ) (is : e ≡ k) where
   passed {x} h q = q ∙ ap (λ (n : ℕ). unless refuse n x) (sym h ∙ is)
 
 -- what holds of each number of the checks, and of what comes behind them, holds of the answer
-pub unless-by : {A : Type 0} (P : A → Type 0) (refuse : ℕ → A) (n : ℕ) (x : A) → ((k : ℕ) → n ≡ suc k → P (refuse (suc k))) → (n ≡ 0 → P x) → P (unless refuse n x)
+pub unless-by : {A : Type 0} (P : A → Type 0) (refuse : ℕ → A) (n : ℕ) (x : A) → ((k : ℕ) → n ≡ suc k → P (refuse (suc k))) → (n ≡ 0 → P x)
+    → P (unless refuse n x)
 unless-by P refuse zero x f g = g refl
 unless-by P refuse (suc k) x f g = f k refl

@@ -69,6 +69,13 @@ module _ (s : List ℕ) (p : ℕ) where
           let e : k ≡ q = omega arith in
           f ∙ ap {B = Option ℕ} some e
 
+  pub first-absent : (n : ℕ) → NoOne s p n → firstOne s p n ≡ none
+  first-absent n h = go (firstOne s p n) refl
+    where
+      go : (o : Option ℕ) → firstOne s p n ≡ o → firstOne s p n ≡ none
+      go none f = f
+      go (some k) f = let r = first-where n k f in absurd (let z = h k (r .from) (r .within) in let y = r .one in omega arith)
+
   -- ---- the last one
 
   pub last-nowhere : (n : ℕ) → lastOne s p n ≡ none → NoOne s p n
@@ -76,7 +83,8 @@ module _ (s : List ℕ) (p : ℕ) where
   last-nowhere zero h = λ i a b. absurd (let z : ⊥ = omega arith in z)
   last-nowhere (suc n) h = go (eqb (bitAt s (p + n)) 1) refl (last-nowhere n) h
     where
-      go : (b : Bool) → eqb (bitAt s (p + n)) 1 ≡ b → (lastOne s p n ≡ none → NoOne s p n) → cond b (some (p + n)) (lastOne s p n) ≡ none → NoOne s p (suc n)
+      go : (b : Bool) → eqb (bitAt s (p + n)) 1 ≡ b → (lastOne s p n ≡ none → NoOne s p n) → cond b (some (p + n)) (lastOne s p n) ≡ none
+          → NoOne s p (suc n)
       go false e ih k = no-more n (ih k) (eqb-false (bitAt s (p + n)) 1 e)
       go true e ih k = absurd (let z : _≡_ {A = ℕ} 0 1 = cc in omega arith)
 
@@ -85,7 +93,8 @@ module _ (s : List ℕ) (p : ℕ) where
   last-where zero q h = absurd (let z : _≡_ {A = ℕ} 0 1 = cc in omega arith)
   last-where (suc n) q h = go (eqb (bitAt s (p + n)) 1) refl (last-where n q) h
     where
-      go : (b : Bool) → eqb (bitAt s (p + n)) 1 ≡ b → (lastOne s p n ≡ some q → IsLast s p n q) → cond b (some (p + n)) (lastOne s p n) ≡ some q → IsLast s p (suc n) q
+      go : (b : Bool) → eqb (bitAt s (p + n)) 1 ≡ b → (lastOne s p n ≡ some q → IsLast s p n q) → cond b (some (p + n)) (lastOne s p n) ≡ some q
+          → IsLast s p (suc n) q
       go true e ih k =
           let at : p + n ≡ q = cc in
           record {
@@ -121,6 +130,13 @@ module _ (s : List ℕ) (p : ℕ) where
           let high : k < q → ⊥ = λ l. let z = r .zeros q l (h .within) in omega arith in
           let e : k ≡ q = omega arith in
           f ∙ ap {B = Option ℕ} some e
+
+  pub last-absent : (n : ℕ) → NoOne s p n → lastOne s p n ≡ none
+  last-absent n h = go (lastOne s p n) refl
+    where
+      go : (o : Option ℕ) → lastOne s p n ≡ o → lastOne s p n ≡ none
+      go none f = f
+      go (some k) f = let r = last-where n k f in absurd (let z = h k (r .from) (r .within) in let y = r .one in omega arith)
 
   -- ---- the first one, by values: zeros make 0, and zeros and a one make 1
 

@@ -12,6 +12,7 @@ pub mod Codes
 pub mod Reading
 pub mod Locality
 pub mod Refusing
+pub mod Concrete
 pub mod OneCode
 pub mod Writing
 pub mod WriteRead

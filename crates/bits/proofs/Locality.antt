@@ -65,15 +65,16 @@ stands-again s t code p p′ b c = record { within = b .within; there = sym (b .
 pub codes-local : {A : Type 0} {code : A → List ℕ} {Ok : A → Type 0} {read : List ℕ → ℕ → Ans A} → ReadsCodes code Ok read → Local read
 codes-local {A} {code} {Ok} {read} r =
     record {
-      grows = λ s p a q e. let n = r .took s p a q e .next in omega arith;
-      within = λ s p a q e _. let t = r .took s p a q e in omega (arith, t .next, t .stands .within);
+      grows = λ s p a q e. let n = r .took s p a q e .stops in omega arith;
+      within = λ s p a q e _. let t = r .took s p a q e in omega (arith, t .stops, t .stands .within);
       again = again;
     }
   where
-    again : (s : List ℕ) (p : ℕ) (a : A) (q : ℕ) (t : List ℕ) (p′ : ℕ) → read s p ≡ got a q → SameBits s p t p′ (q - p) → read t p′ ≡ got a (p′ + (q - p))
+    again : (s : List ℕ) (p : ℕ) (a : A) (q : ℕ) (t : List ℕ) (p′ : ℕ) → read s p ≡ got a q → SameBits s p t p′ (q - p)
+        → read t p′ ≡ got a (p′ + (q - p))
     again s p a q t p′ e b =
         let k = r .took s p a q e in
-        let len : q - p ≡ length (code a) = omega (arith, k .next) in
+        let len : q - p ≡ length (code a) = omega (arith, k .stops) in
         let c = stands-again s t (code a) p p′ (subst (SameBits s p t p′) len b) (k .stands) in
         let w = b .within in
         r .gives t p′ a (record { small = b .small; within = omega arith }) (k .ok) c ∙ ap (λ (n : ℕ). got a (p′ + n)) (sym len)
@@ -98,14 +99,15 @@ bits-local n =
 pub skip-local : (n : ℕ) → Local (λ s p. skipped s p n)
 skip-local n =
     record {
-      grows = λ s p v q e. let t = skip-took s p n v q e .next in omega arith;
+      grows = λ s p v q e. let t = skip-took s p n v q e .stops in omega arith;
       within = λ s p v q e _. skip-took s p n v q e .within;
       again = again;
     }
   where
-    again : (s : List ℕ) (p : ℕ) (v : Unit) (q : ℕ) (t : List ℕ) (p′ : ℕ) → skipped s p n ≡ got v q → SameBits s p t p′ (q - p) → skipped t p′ n ≡ got v (p′ + (q - p))
+    again : (s : List ℕ) (p : ℕ) (v : Unit) (q : ℕ) (t : List ℕ) (p′ : ℕ) → skipped s p n ≡ got v q → SameBits s p t p′ (q - p)
+        → skipped t p′ n ≡ got v (p′ + (q - p))
     again s p v q t p′ e b =
-        let k = skip-took s p n v q e .next in
+        let k = skip-took s p n v q e .stops in
         let w = b .within in
         let len : q - p ≡ n = omega arith in
         skip-give t p′ n v (record { small = b .small; within = omega arith }) (omega arith) ∙ ap (λ (i : ℕ). got v (p′ + i)) (sym len)
@@ -162,6 +164,7 @@ then-local {A} {B} {f} {g} l m = record { grows = grows; within = within; again 
             let cut : r - p ≡ (r - q) + (q - p) = omega arith in
             let at : p + (q - p) ≡ q = omega arith in
             let one = l .again s p a q t p′ h (same-front s p t p′ (q - p) (r - p) (omega arith) w) in
-            let rest = subst (λ (i : ℕ). SameBits s i t (p′ + (q - p)) (r - q)) at (same-rest s p t p′ (q - p) (r - q) (subst (SameBits s p t p′) cut w)) in
+            let rest = subst (λ (i : ℕ). SameBits s i t (p′ + (q - p)) (r - q)) at
+            (same-rest s p t p′ (q - p) (r - q) (subst (SameBits s p t p′) cut w)) in
             simp one (m a .again s q b r t (p′ + (q - p)) k rest ∙ ap (λ (i : ℕ). got b i) (omega arith))
         go (no n) h k = absurd (let z : _≡_ {A = ℕ} 0 1 = cc in omega arith)

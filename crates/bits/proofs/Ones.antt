@@ -14,7 +14,7 @@ use lib.Pow.{high}
 use lib.Count.{leadingZeros, leading-top, trailingZeros}
 use Rattle.bits.specs.Rule.{bitAt, valueAt, firstOne, lastOne, size}
 use Rattle.bits.specs.Step.{FirstFrom, AfterLast}
-use Rattle.bits.specs.Answer.{behind, finishFrom}
+use Rattle.bits.specs.Answer.{liesBehind, finishFrom}
 use Rattle.bits.proofs.Value.{bit-lt, value-lt, value-split, value-one, value-byte, value-in-byte, pow-lt-cancel}
 use Rattle.bits.proofs.Trailing.{trailing-low, trailing-one, trailing-byte}
 
@@ -142,7 +142,8 @@ after-in s k e l pos small h at =
       zeros =
           ap (valueAt s e) (omega arith) ∙ value-split s e t n
           ∙ ap₂ (λ (x y : ℕ). x * 2 ^ n + y) z (ap (λ (q : ℕ). valueAt s q n) at ∙ h) ∙ omega arith;
-      one = λ _. ap (bitAt s) one-at ∙ sym (value-one s (8 * k + (7 - t))) ∙ value-in-byte s k (7 - t) 1 t (omega arith) ∙ trailing-one 32 b pos (omega arith);
+      one = λ _. ap (bitAt s) one-at ∙ sym (value-one s (8 * k + (7 - t))) ∙ value-in-byte s k (7 - t) 1 t (omega arith)
+          ∙ trailing-one 32 b pos (omega arith);
     }
 
 pub after-none : (s : List ℕ) → valueAt s 0 (size s - 0) ≡ 0 → AfterLast s 0
@@ -168,13 +169,13 @@ last-after s p e a l =
     ∙ last-is s p z (size s - e) (ap (bitAt s) place ∙ a .one (omega arith)) (ap (λ (q : ℕ). valueAt s q (size s - e)) next ∙ a .zeros)
     ∙ ap {B = Option ℕ} some place
 
-pub behind-yes : (s : List ℕ) (p e : ℕ) → AfterLast s e → p + 1 < e → behind p (lastOne s p (size s - p)) ≡ true
+pub behind-yes : (s : List ℕ) (p e : ℕ) → AfterLast s e → p + 1 < e → liesBehind p (lastOne s p (size s - p)) ≡ true
 behind-yes s p e a l = simp (last-after s p e a (omega arith), lt-ltb p (e - 1) (omega arith))
 
-pub behind-no : (s : List ℕ) (p e : ℕ) → AfterLast s e → p ≤ size s → e ≤ p + 1 → behind p (lastOne s p (size s - p)) ≡ false
+pub behind-no : (s : List ℕ) (p e : ℕ) → AfterLast s e → p ≤ size s → e ≤ p + 1 → liesBehind p (lastOne s p (size s - p)) ≡ false
 behind-no s p e a h l = go (eq-or-lt-of-le l)
   where
-    go : (e ≡ p + 1) ⊎ (e < p + 1) → behind p (lastOne s p (size s - p)) ≡ false
+    go : (e ≡ p + 1) ⊎ (e < p + 1) → liesBehind p (lastOne s p (size s - p)) ≡ false
     go (inl g) = simp (last-after s p e a (omega arith), le-ltb p (e - 1) (omega arith))
     go (inr g) = simp (last-before s p e a (omega arith) h)
 
@@ -186,7 +187,8 @@ finish-here missing s p e a h = simp (last-after s p e a (omega arith), eq-eqb (
 pub finish-behind : (missing : ℕ) (s : List ℕ) (p e : ℕ) → AfterLast s e → p + 1 < e → finishFrom missing p (lastOne s p (size s - p)) ≡ 6
 finish-behind missing s p e a h = simp (last-after s p e a (omega arith), ne-eqb (e - 1) p (omega arith))
 
-pub finish-missing : (missing : ℕ) (s : List ℕ) (p e : ℕ) → AfterLast s e → p ≤ size s → e ≤ p → finishFrom missing p (lastOne s p (size s - p)) ≡ missing
+pub finish-missing : (missing : ℕ) (s : List ℕ) (p e : ℕ) → AfterLast s e → p ≤ size s → e ≤ p
+    → finishFrom missing p (lastOne s p (size s - p)) ≡ missing
 finish-missing missing s p e a h l = simp (last-before s p e a l h)
 
 pub finish-not-here : (s : List ℕ) (p e : ℕ) → AfterLast s e → p ≤ size s → (p + 1 ≡ e → ⊥) → finishFrom 6 p (lastOne s p (size s - p)) ≡ 6

@@ -12,7 +12,8 @@ use Rattle.desk.specs.Numbers.{most, entryOf}
 use Rattle.desk.proofs.Entering.{entry-long}
 use Rattle.bits.specs.Rule.{bitAt, valueAt, firstOne, lastOne, topOf}
 use Rattle.bits.specs.Step.{wrote, kept, writer, stored, bytesOf}
-use Rattle.bits.specs.Answer.{got, no, told, denied, pastEnd, badWriter, readBits, readBit, readUe, readSe, skipped, hasMore, finishRbsp, finishSei, mapped, wholeBytes, writeBits, writeBit, writeUe, writeSe, writeTrailing}
+use Rattle.bits.specs.Answer.{got, no, told, denied, pastEnd, badWriter, readBits, readBit, readUe, readSe, skipped, hasMore}
+use Rattle.bits.specs.Answer.{finishRbsp, finishSei, mapped, wholeBytes, writeBits, writeBit, writeUe, writeSe, writeTrailing}
 
 -- ---- 1
 
@@ -20,7 +21,7 @@ use Rattle.bits.specs.Answer.{got, no, told, denied, pastEnd, badWriter,
 pub long : List ℕ
 long = replicate 16777217 0
 
-over : most < length long
+pub over : most < length long
 unfolding long
 over = subst (λ (n : ℕ). most < n) (sym (length-replicate {A = ℕ} 16777217 0)) (omega arith)
 
@@ -85,11 +86,12 @@ pub number-4 :
     × (readBit [] 0 ≡ no 4)
     × (readUe (0 ∷ 0 ∷ 0 ∷ 0 ∷ []) 0 ≡ no 4)
     × (readUe (0x01 ∷ []) 0 ≡ no 4)
-    × (readSe [] 0 ≡ no 4)
+    × (readSe (0 ∷ 0 ∷ 0 ∷ 0 ∷ []) 0 ≡ no 4)
+    × (readSe (0x01 ∷ []) 0 ≡ no 4)
     × (skipped [] 0 1 ≡ no 4)
     × (finishRbsp [] 0 ≡ 4)
 unfolding readBits readBit readUe readSe skipped finishRbsp entryOf pastEnd firstOne lastOne bitAt
-number-4 = (refl, refl, refl, refl, refl, refl, refl)
+number-4 = (refl, refl, refl, refl, refl, refl, refl, refl)
 
 -- a one after 32 zeros is 5, though no bits follow
 pub number-5 :

@@ -17,7 +17,8 @@ use lib.Pow.{pow-pos, pow-mono}
 use Rattle.desk.proofs.Choice.{cond-by}
 use Rattle.bits.specs.Rule.{size, valueAt, firstOne, bitsOf, prefixOf, ueCode, Stands, URange, UeRange, signedOf, unsignedOf, seCode, SeRange}
 use Rattle.bits.specs.Answer.{Ans, got, no, entryAt, ueWidth, readBits, readUe, ueFrom, asSigned, readSe, asBool, readBit, skipped}
-use Rattle.bits.specs.Reading.{Entered, bitCode, AnyBit, Took, ReadsCodes, WhyBits, bitsEntry, bitsWide, bitsShort, OneAfter, WhyUe, ueEntry, ueNone, ueMany, ueShort, Skipped, WhySkip, skipEntry, skipShort}
+use Rattle.bits.specs.Reading.{Entered, bitCode, AnyBit, Took, ReadsCodes, WhyBits, bitsEntry, bitsWide, bitsShort, OneAfter, WhyUe}
+use Rattle.bits.specs.Reading.{ueEntry, ueNone, ueMany, ueShort, Skipped, WhySkip, skipEntry, skipShort}
 use Rattle.bits.proofs.Entry.{entered, enters, entry-why, unless-by}
 use Rattle.bits.proofs.Value.{value-lt, value-split}
 use Rattle.bits.proofs.Ones.{first-is, top-one}
@@ -44,7 +45,7 @@ bits-mean s p n =
         entered = g;
         ok = value-lt s p n;
         stands = value-stands s p n (ltb-false (size s) (p + n) f);
-        next = omega arith;
+        stops = omega arith;
       },
     ))))
 
@@ -56,7 +57,8 @@ bits-width s p n v q e = subst (BitsMean s p n) e (bits-mean s p n) .0
 pub bits-refused : (s : List ℕ) (p n k : ℕ) → readBits s p n ≡ no k → WhyBits s p n k
 bits-refused s p n k e = subst (BitsMean s p n) e (bits-mean s p n)
 
-bits-give : (n : ℕ) → n ≤ 32 → (s : List ℕ) (p v : ℕ) → Entered s p → v < 2 ^ n → Stands s p (bitsOf n v) → readBits s p n ≡ got v (p + length (bitsOf n v))
+bits-give : (n : ℕ) → n ≤ 32 → (s : List ℕ) (p v : ℕ) → Entered s p → v < 2 ^ n → Stands s p (bitsOf n v)
+    → readBits s p n ≡ got v (p + length (bitsOf n v))
 unfolding readBits
 bits-give n h s p v g l c =
     let long = length-bits-of n v in
@@ -88,7 +90,7 @@ ue-at s p z g l one w =
       entered = g;
       ok = small;
       stands = subst (Stands s p) (ap (bitsOf (ueWidth v)) all ∙ ue-bits v small) (value-stands s p (ueWidth v) (omega arith));
-      next = omega arith;
+      stops = omega arith;
     }
 
 abbrev UeMean : List ℕ → ℕ → Ans ℕ → Type 0
@@ -160,7 +162,7 @@ se-took s p z q e = go (readUe s p) refl e
           entered = t .entered;
           ok = in-range z (omega arith);
           stands = subst (λ (i : ℕ). Stands s p (ueCode i)) (sym u) (t .stands);
-          next = qr ∙ t .next ∙ ap (λ (i : ℕ). p + length (ueCode i)) (sym u);
+          stops = qr ∙ t .stops ∙ ap (λ (i : ℕ). p + length (ueCode i)) (sym u);
         }
     go (no n) f h = absurd (let x : _≡_ {A = ℕ} 0 1 = cc in omega arith)
 
@@ -200,14 +202,16 @@ bit-took s p b q e = go (readBits s p 1) refl e
           entered = t .entered;
           ok = tt;
           stands = subst (Stands s p) code (t .stands);
-          next = sym qr ∙ t .next ∙ ap (λ (c : List ℕ). p + length c) code;
+          stops = sym qr ∙ t .stops ∙ ap (λ (c : List ℕ). p + length c) code;
         }
     go (no n) f h = absurd (let x : _≡_ {A = ℕ} 0 1 = cc in omega arith)
 
 bit-give : (s : List ℕ) (p : ℕ) (b : Bool) → Entered s p → AnyBit b → Stands s p (bitCode b) → readBit s p ≡ got b (p + length (bitCode b))
 unfolding readBit
-bit-give s p true g u c = simp (bits-codes 1 (omega arith) .gives s p 1 g (omega arith) (subst (Stands s p) (sym (bits-of-bit 1 (omega arith))) c), length-bits-of 1 1)
-bit-give s p false g u c = simp (bits-codes 1 (omega arith) .gives s p 0 g (omega arith) (subst (Stands s p) (sym (bits-of-bit 0 (omega arith))) c), length-bits-of 1 0)
+bit-give s p true g u c =
+    simp (bits-codes 1 (omega arith) .gives s p 1 g (omega arith) (subst (Stands s p) (sym (bits-of-bit 1 (omega arith))) c), length-bits-of 1 1)
+bit-give s p false g u c =
+    simp (bits-codes 1 (omega arith) .gives s p 0 g (omega arith) (subst (Stands s p) (sym (bits-of-bit 0 (omega arith))) c), length-bits-of 1 0)
 
 pub bit-codes : ReadsCodes bitCode AnyBit readBit
 bit-codes = record { took = bit-took; gives = bit-give }
@@ -232,7 +236,7 @@ skip-means s p n =
     unless-by (SkipMeans s p n) no (entryAt s p) _ (λ k e. skipEntry (entry-why s p k e))
     (λ e. let g = entered s p e in
     cond-by (SkipMeans s p n) (ltb (size s) (p + n)) _ _ (λ t. skipShort g (ltb-true (size s) (p + n) t))
-    (λ f. record { entered = g; next = refl; within = ltb-false (size s) (p + n) f }))
+    (λ f. record { entered = g; stops = refl; within = ltb-false (size s) (p + n) f }))
 
 pub skip-took : (s : List ℕ) (p n : ℕ) (v : Unit) (q : ℕ) → skipped s p n ≡ got v q → Skipped s p n q
 skip-took s p n v q e = subst (SkipMeans s p n) e (skip-means s p n)

@@ -1,19 +1,19 @@
--- Each number of a reader is given exactly where its reason holds; and which numbers are left to a caller that has made the entry checks itself.
--- Assumes nothing.
+-- Each number of a reader is given where its reason holds (proofs/Reading.antt: and only there); and which number is left to a caller of
+-- `read` that has made the entry checks itself. Assumes nothing.
 use mathlib.Core.Path.{_≡_, refl, ap, _∙_}
 use mathlib.Core.List.{List}
 use mathlib.Core.Bool.{false, true}
-use mathlib.Core.Logic.{_⊎_, inl, inr}
 use mathlib.Core.Option.{some}
 use Prim.Native.Nat.{ℕ, suc, _+_, _-_, _≤_, _<_}
 use native.Mathlib.Omega.{arith}
 use borrow.Author.Tests.{lt-ltb, le-ltb, ltb-false}
 use Rattle.bits.specs.Rule.{size, firstOne}
 use Rattle.bits.specs.Answer.{Ans, no, unless, entryAt, pastEnd, readBits, readBit, readUe, readSe, skipped}
-use Rattle.bits.specs.Reading.{Entered, WhyEntry, long, past, WhyBits, bitsEntry, bitsWide, bitsShort, OneAfter, WhyUe, ueEntry, ueNone, ueMany, ueShort, WhySkip, skipEntry, skipShort}
+use Rattle.bits.specs.Reading.{Entered, WhyEntry, long, past, WhyBits, bitsEntry, bitsWide, bitsShort, OneAfter, WhyUe, ueEntry}
+use Rattle.bits.specs.Reading.{ueNone, ueMany, ueShort, WhySkip, skipEntry, skipShort}
 use Rattle.bits.proofs.Entry.{enters, why-entry}
 use Rattle.bits.proofs.Ones.{first-none, first-is}
-use Rattle.bits.proofs.Reading.{bits-refused, bit-refused, ue-refused, se-refused}
+use Rattle.bits.proofs.Reading.{bits-refused}
 
 -- ---- the entry checks, for a caller that makes them itself
 
@@ -37,6 +37,11 @@ bits-refuse (bitsEntry w) = entry-no _ w
 bits-refuse {s} {p} {n} (bitsWide g h) = simp (enters s p g, lt-ltb 32 n h)
 bits-refuse {s} {p} {n} (bitsShort g w h) = simp (enters s p g, le-ltb 32 n w, lt-ltb (size s) (p + n) h)
 
+-- one bit is refused as u(1) is
+pub bit-refuse : {s : List ℕ} {p k : ℕ} → WhyBits s p 1 k → readBit s p ≡ no k
+unfolding readBit
+bit-refuse w = rw (bits-refuse w)
+
 first-at : (s : List ℕ) (p z : ℕ) → OneAfter s p z → firstOne s p (size s - p) ≡ some (p + z)
 first-at s p z o = let w = o .within in ap (firstOne s p) (omega arith) ∙ first-is s p z (size s - p - suc z) (o .one)
 
@@ -50,6 +55,11 @@ ue-refuse {s} {p} (ueMany z g o h) =
 ue-refuse {s} {p} (ueShort z g o h l) =
     let e : p + z - p ≡ z = omega arith in
     simp (enters s p g, first-at s p z o, e, le-ltb 31 z h, lt-ltb (size s) (p + z + 1 + z) (omega arith))
+
+-- se(v) is refused as ue(v) is
+pub se-refuse : {s : List ℕ} {p k : ℕ} → WhyUe s p k → readSe s p ≡ no k
+unfolding readSe
+se-refuse w = rw (ue-refuse w)
 
 pub skip-refuse : {s : List ℕ} {p n k : ℕ} → WhySkip s p n k → skipped s p n ≡ no k
 unfolding skipped
@@ -70,23 +80,3 @@ module _ (s : List ℕ) (p : ℕ) (g : Entered s p) (k : ℕ) where
       go (bitsEntry w) = absurd (not-entry g w)
       go (bitsWide g′ w) = absurd (let z : ⊥ = omega arith in z)
       go (bitsShort g′ w l) = refl
-
-  pub bit-number : readBit s p ≡ no k → k ≡ 4
-  bit-number e = go (bit-refused s p k e)
-    where
-      go : {k : ℕ} → WhyBits s p 1 k → k ≡ 4
-      go (bitsEntry w) = absurd (not-entry g w)
-      go (bitsWide g′ w) = absurd (let z : ⊥ = omega arith in z)
-      go (bitsShort g′ w l) = refl
-
-  ue-why : {k : ℕ} → WhyUe s p k → (k ≡ 4) ⊎ (k ≡ 5)
-  ue-why (ueEntry w) = absurd (not-entry g w)
-  ue-why (ueNone g′ h) = inl refl
-  ue-why (ueMany z g′ o h) = inr refl
-  ue-why (ueShort z g′ o h l) = inl refl
-
-  pub ue-number : readUe s p ≡ no k → (k ≡ 4) ⊎ (k ≡ 5)
-  ue-number e = ue-why (ue-refused s p k e)
-
-  pub se-number : readSe s p ≡ no k → (k ≡ 4) ⊎ (k ≡ 5)
-  se-number e = ue-why (se-refused s p k e)

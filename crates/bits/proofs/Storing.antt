@@ -27,7 +27,8 @@ unfolding bytesOf
 bytes-at zero x j h = absurd (omega arith)
 bytes-at (suc k) x j h = go (bytes-at k (x / 256) j) (eq-or-lt-of-le (le-of-suc-le-suc h))
   where
-    go : (j < k → getD (bytesOf k (x / 256)) j 0 ≡ x / 256 / 2 ^ (8 * (k - 1 - j)) % 256) → (j ≡ k) ⊎ (j < k) → getD (bytesOf k (x / 256) ++ (x % 256 ∷ [])) j 0 ≡ x / 2 ^ (8 * (suc k - 1 - j)) % 256
+    go : (j < k → getD (bytesOf k (x / 256)) j 0 ≡ x / 256 / 2 ^ (8 * (k - 1 - j)) % 256) → (j ≡ k) ⊎ (j < k)
+        → getD (bytesOf k (x / 256) ++ (x % 256 ∷ [])) j 0 ≡ x / 2 ^ (8 * (suc k - 1 - j)) % 256
     go ih (inl e) =
         let none : 0 ≡ 8 * (suc k - 1 - j) = omega arith in
         getD-at (bytesOf k (x / 256)) (x % 256) [] 0 j (length-bytes k (x / 256) ∙ sym e)

@@ -21,7 +21,8 @@ top-is (suc k) a j l lo hi = go (top-is k a j) (eq-or-lt-of-le l)
     go ih (inl e) = simp (le-leb (2 ^ suc k) a (subst (λ (i : ℕ). 2 ^ i ≤ a) e lo)) (sym e)
     go ih (inr g) = simp (lt-leb (2 ^ suc k) a (lt-of-lt-of-le hi (pow-mono g))) (ih (omega arith) lo hi)
 
-pub top-bounds : (a : ℕ) → 0 < a → a < 2 ^ 32 → (leadingZeros 32 a ≤ 31) × (31 - leadingZeros 32 a ≡ topOf 31 a) × (2 ^ topOf 31 a ≤ a) × (a < 2 ^ suc (topOf 31 a))
+pub top-bounds : (a : ℕ) → 0 < a → a < 2 ^ 32
+    → (leadingZeros 32 a ≤ 31) × (31 - leadingZeros 32 a ≡ topOf 31 a) × (2 ^ topOf 31 a ≤ a) × (a < 2 ^ suc (topOf 31 a))
 top-bounds a above h =
     let t = leading-top 32 a above h in
     let j = t .0 in

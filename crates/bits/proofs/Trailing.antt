@@ -24,7 +24,8 @@ unfolding trailingZeros
 trailing-one zero n pos h = absurd (omega arith)
 trailing-one (suc k) n pos h = go (n % 2) refl (trailing-one k (n / 2))
   where
-    go : (d : ℕ) → n % 2 ≡ d → (0 < n / 2 → n / 2 < 2 ^ k → n / 2 / 2 ^ trailingZeros k (n / 2) % 2 ≡ 1) → n / 2 ^ under d (trailingZeros k (n / 2)) % 2 ≡ 1
+    go : (d : ℕ) → n % 2 ≡ d → (0 < n / 2 → n / 2 < 2 ^ k → n / 2 / 2 ^ trailingZeros k (n / 2) % 2 ≡ 1)
+        → n / 2 ^ under d (trailingZeros k (n / 2)) % 2 ≡ 1
     go zero e ih =
         ap (λ (x : ℕ). n / 2 ^ x % 2) (sym (one-add (trailingZeros k (n / 2)))) ∙ ap (λ (x : ℕ). x % 2) (sym (shr-shr n 1 (trailingZeros k (n / 2))))
         ∙ ih (omega arith) (omega arith)

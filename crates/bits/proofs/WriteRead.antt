@@ -14,7 +14,8 @@ use Rattle.bits.specs.Rule.{size, bitAt, valueAt, lastOne, bits, bitsOf,
 use Rattle.bits.specs.Step.{Good}
 use Rattle.bits.specs.Answer.{writeTrailing, Writes, newWriter, finishRbsp}
 use Rattle.bits.specs.Reading.{Entered}
-use Rattle.bits.specs.Writing.{content, Appends, WriteMeans, Field, u, flag, ue, se, codeOf, HasCode, without, ReadsField, Written, nothing, next, ReadBack, end, then}
+use Rattle.bits.specs.Writing.{content, Appends, WriteMeans, Field, u, flag, ue, se, codeOf, HasCode, without, ReadsField}
+use Rattle.bits.specs.Writing.{WritesFields, nothing, one-more, ReadBack, end, then}
 use Rattle.bits.specs.declared.BitWriter.{BitWriter}
 use Rattle.bits.specs.declared.Put.the-variants.{Done}
 use Rattle.bits.proofs.Back.{write-answer}
@@ -35,10 +36,10 @@ abbrev AllHave : List Field → Type 0
 AllHave [] = Unit
 AllHave (f ∷ fs) = HasCode f × AllHave fs
 
-written-codes : {o o′ : List ℕ} {st st′ : BitWriter} {fs : List Field} → Written o st fs o′ st′
+written-codes : {o o′ : List ℕ} {st st′ : BitWriter} {fs : List Field} → WritesFields o st fs o′ st′
     → AllHave fs × (content o′ st′ ≡ content o st ++ codesOf fs)
 written-codes {o} {st} nothing = (tt, sym (append-nil (content o st)))
-written-codes {o} {st} (next {f} {fs} h t) =
+written-codes {o} {st} (one-more {f} {fs} h t) =
     let m = subst (WriteMeans o st (codeOf f) (HasCode f) (without f)) (sym (write-answer h))
     (field-means o st f) in
     let r = written-codes t in (
@@ -118,10 +119,11 @@ closed {o} {o′} {st} {st′} g a =
       length-append (content o st) (trailingBits c),
       length-replicate {A = ℕ} (7 - c) 0,
     ) in
-    sym (append-nil (bits (take w′ o′))) ∙ ap (λ (b : List ℕ). bits (take w′ o′) ++ b) (sym (ap (λ (k : ℕ). bitsOf k (st′ .pending)) none ∙ no-bits (st′ .pending))) ∙ a .grown
+    sym (append-nil (bits (take w′ o′)))
+    ∙ ap (λ (b : List ℕ). bits (take w′ o′) ++ b) (sym (ap (λ (k : ℕ). bitsOf k (st′ .pending)) none ∙ no-bits (st′ .pending))) ∙ a .grown
 
 -- what was written into a room from a new writer, with trailing bits behind it, reads back from place 0, and ends where the trailing bits are
-pub write-read : {o o₁ o₂ : List ℕ} {st₁ st₂ : BitWriter} {fs : List Field} → Written o newWriter fs o₁ st₁
+pub write-read : {o o₁ o₂ : List ℕ} {st₁ st₂ : BitWriter} {fs : List Field} → WritesFields o newWriter fs o₁ st₁
     → Writes st₁ (Done st₂) o₂ (writeTrailing o₁ st₁)
     → (p : ℕ) × ReadBack (take (st₂ .written .0) o₂) 0 fs p × (finishRbsp (take (st₂ .written .0) o₂) p ≡ 0)
 write-read {o} {o₁} {o₂} {st₁} {st₂} {fs} h t =

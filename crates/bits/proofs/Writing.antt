@@ -18,7 +18,8 @@ use Rattle.bits.specs.Rule.{bits, bitsOf, ueCode, UeRange, seCode, SeRan
 use Rattle.bits.specs.Step.{whole, Good, Wrote, wrote, kept, stored, filled, bytesOf}
 use Rattle.bits.specs.Answer.{entryOn, badWriter, roomed, ueWidth, writeBits, writeBit, writeUe, writeSe, writeTrailing}
 use Rattle.bits.specs.Reading.{bitCode}
-use Rattle.bits.specs.Writing.{content, Appends, WhyNot, roomTooLong, stateBad, codeMissing, roomTooShort, WriteMeans, Field, u, flag, ue, se, codeOf, HasCode, without, writeField}
+use Rattle.bits.specs.Writing.{content, Appends, WhyNot, roomTooLong, stateBad, codeMissing, roomTooShort, WriteMeans, Field, u, flag}
+use Rattle.bits.specs.Writing.{ue, se, codeOf, HasCode, without, writeField}
 use Rattle.bits.specs.declared.BitWriter.{BitWriter}
 use Rattle.bits.proofs.Entry.{entry-numbers, good, good-state, unless-by}
 use Rattle.bits.proofs.Codes.{length-bits-of, bits-split, bits-mod, bits-append, bits-none, bits-one, length-bits, ue-bits, ue-below, top-bits}
@@ -75,7 +76,8 @@ length-content o st h =
     let c = st .count in
     length-append (bits (take w o)) (bitsOf c p) ∙ omega (arith, length-bits (take w o), length-take-le w o h, length-bits-of c p)
 
-stored-appends : (o : List ℕ) (st : BitWriter) (n v : ℕ) → Good (length o) st → v < 2 ^ n → whole st n ≤ length o → AppendsTo o st (bitsOf n v) (stored o st n v)
+stored-appends : (o : List ℕ) (st : BitWriter) (n v : ℕ) → Good (length o) st → v < 2 ^ n → whole st n ≤ length o
+    → AppendsTo o st (bitsOf n v) (stored o st n v)
 unfolding stored
 stored-appends o st n v g h l =
     let k = (st .count + n) / 8 in
@@ -97,7 +99,8 @@ module _ (o : List ℕ) (st : BitWriter) (code : List ℕ) (Has : Type 0) (witho
   entry-means : (k : ℕ) → entryOn (length o) st ≡ suc k → Means (kept (suc k) o)
   entry-means k e = (refl, go (entry-numbers (length o) (badWriter (length o) st) k e))
     where
-      go : ((suc k ≡ 1) × (most < length o)) ⊎ ((suc k ≡ 2) × (length o ≤ most) × (badWriter (length o) st ≡ true)) → WhyNot o st code Has without (suc k)
+      go : ((suc k ≡ 1) × (most < length o)) ⊎ ((suc k ≡ 2) × (length o ≤ most) × (badWriter (length o) st ≡ true))
+          → WhyNot o st code Has without (suc k)
       go (inl h) = subst (WhyNot o st code Has without) (sym (h .0)) (roomTooLong (h .1))
       go (inr h) = subst (WhyNot o st code Has without) (sym (h .0)) (stateBad (h .1) (h .2))
 
@@ -204,7 +207,8 @@ module _ (o : List ℕ) (st : BitWriter) where
       (λ b. let l = leb-false 2147483648 (natAbs z) b in
       let r : SeRange z = omega arith in
       let s = has-code z r in
-      roomed-means o st (seCode z) (SeRange z) 9 (ueWidth (unsignedOf z)) (unsignedOf z + 1) g r (ue-below (unsignedOf z) s) (ue-bits (unsignedOf z) s)))
+      roomed-means o st (seCode z) (SeRange z) 9 (ueWidth (unsignedOf z)) (unsignedOf z + 1) g r (ue-below (unsignedOf z) s)
+      (ue-bits (unsignedOf z) s)))
 
   pub field-means : (f : Field) → FieldMeans f (writeField o st f)
   field-means (u n v) = u-means n v
@@ -217,7 +221,8 @@ module _ (o : List ℕ) (st : BitWriter) where
   pub trailing-means : WriteMeans o st (trailingBits (st .count)) Unit 0 (writeTrailing o st)
   unfolding writeTrailing
   trailing-means =
-      unless-by (WriteMeans o st (trailingBits (st .count)) Unit 0) (λ k. kept k o) (entryOn (length o) st) _ (entry-means o st (trailingBits (st .count)) Unit 0)
+      unless-by (WriteMeans o st (trailingBits (st .count)) Unit 0) (λ k. kept k o) (entryOn (length o) st) _
+      (entry-means o st (trailingBits (st .count)) Unit 0)
       (λ e. let g = good (length o) st e in
       let few = g .few in
       let c = st .count in

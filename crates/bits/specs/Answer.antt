@@ -105,12 +105,12 @@ unfoldable pub skipped : List ℕ → ℕ → ℕ → Ans Unit
 skipped s p n = unless no (entryAt s p) (cond (ltb (size s) (p + n)) (no bitsRunOut) (got tt (p + n)))
 
 -- is L, the last one at or after p, behind p?
-abbrev pub behind : ℕ → Option ℕ → Bool
-behind p none = false
-behind p (some l) = ltb p l
+abbrev pub liesBehind : ℕ → Option ℕ → Bool
+liesBehind p none = false
+liesBehind p (some l) = ltb p l
 
 unfoldable pub hasMore : List ℕ → ℕ → Told Bool
-hasMore s p = unless denied (entryAt s p) (told (behind p (lastOne s p (size s - p))))
+hasMore s p = unless denied (entryAt s p) (told (liesBehind p (lastOne s p (size s - p))))
 
 -- 0 where L is p, 6 where it is behind p, and another number where there is no L
 abbrev pub finishFrom : ℕ → ℕ → Option ℕ → ℕ

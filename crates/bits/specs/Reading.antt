@@ -8,9 +8,12 @@ use lib.ListN.{length, take, drop}
 use Rattle.desk.specs.Numbers.{most, tooLong, badState, badWidth, bitsRunOut, expGolombTooLarge}
 use Rattle.bits.specs.Rule.{valueAt}
 pub use Rattle.bits.specs.Rule.{size, bits, bitsOf, URange, ueCode, UeRange, seCode, SeRange, Stands}
-pub use Rattle.bits.specs.Answer.{Ans, got, no, number, andThen, unless, readerAt, Reads, ReadsBit, ReadsSigned, Moves, bitNumber}
-pub use Rattle.bits.specs.Answer.{answer, bitAnswer, signedAnswer, movedAnswer, backBy, back, bitBack, signedBack, movedBack}
-pub use Rattle.bits.specs.Answer.{pastEnd, readBits, readBit, readUe, readSe, skipped}
+pub use Rattle.bits.specs.Answer.{Ans, got, no, number, Told, told, denied, toldNumber, andThen, unless, bitNumber}
+pub use Rattle.bits.specs.Answer.{readerAt, newReader, pastEnd, readBits, readBit, readUe, readSe, skipped}
+pub use Rattle.bits.specs.Answer.{hasMore, finishRbsp, finishSei, wholeBytes, mapped}
+pub use Rattle.bits.specs.Answer.{answer, bitAnswer, signedAnswer, movedAnswer, moreAnswer, alignedAnswer, mappedAnswer}
+pub use Rattle.bits.specs.Answer.{backBy, back, bitBack, signedBack, movedBack, moreBack, alignedBack, mappedBack}
+pub use Rattle.bits.specs.Answer.{Reads, ReadsBit, ReadsSigned, Moves}
 
 -- what the entry checks 1 and 2 let through
 pub record Entered (s : List ℕ) (p : ℕ) : Type 0 where
@@ -35,7 +38,7 @@ pub record Took {A : Type 0} (code : A → List ℕ) (Ok : A → Type 0) (s : Li
   pub entered : Entered s p
   pub ok : Ok a
   pub stands : Stands s p (code a)
-  pub next : q ≡ p + length (code a)
+  pub stops : q ≡ p + length (code a)
 
 -- a reader reads exactly the codes of what is Ok: what it reads has its code there, and where a code stands it reads that
 pub record ReadsCodes {A : Type 0} (code : A → List ℕ) (Ok : A → Type 0) (read : List ℕ → ℕ → Ans A) : Type 0 where
@@ -45,7 +48,7 @@ pub record ReadsCodes {A : Type 0} (code : A → List ℕ) (Ok : A → Type 0) (
 -- n bits were skipped
 pub record Skipped (s : List ℕ) (p n q : ℕ) : Type 0 where
   pub entered : Entered s p
-  pub next : q ≡ p + n
+  pub stops : q ≡ p + n
   pub within : q ≤ size s
 
 -- ---- why a read was refused

@@ -1,4 +1,4 @@
--- THE RULE OF BITS (Rec 7.2, 9.1), over whole lists of bytes. Assumes nothing: these are definitions.
+-- THE RULE OF BITS (Rec 7.2, 9.1), over whole lists of bytes.
 use Prim.Native.Nat.{ℕ, zero, suc, _+_, _-_, _*_, _/_, _%_, _^_, _≤_, _<_}
 use mathlib.Core.Path.{_≡_}
 use mathlib.Core.List.{List, [], _∷_, _++_}

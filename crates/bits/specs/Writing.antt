@@ -7,9 +7,9 @@ use lib.ListN.{length, take, drop}
 use lib.IntN.{ℤ}
 use Rattle.desk.specs.Numbers.{most, tooLong, badState, badWidth, noCode, noRoom}
 use Rattle.bits.specs.Rule.{bits, bitsOf, URange, ueCode, UeRange, seCode, SeRange}
-pub use Rattle.bits.specs.Step.{Good, Wrote, wrote, kept}
+pub use Rattle.bits.specs.Step.{Good, Wrote, wrote, kept, writer}
 use Rattle.bits.specs.Answer.{got, readBits, readBit, readUe, readSe}
-pub use Rattle.bits.specs.Answer.{newWriter, badWriter, Writes, outcome, wroteNumber, putBack, roomBack, finishRbsp}
+pub use Rattle.bits.specs.Answer.{newWriter, badWriter, Writes, outcome, wroteNumber, putBack, roomBack}
 pub use Rattle.bits.specs.Answer.{writeBits, writeBit, writeUe, writeSe, writeTrailing}
 use Rattle.bits.specs.Reading.{bitCode}
 use Rattle.bits.specs.declared.BitWriter.{BitWriter}
@@ -84,10 +84,10 @@ ReadsField s p (se z) q = readSe s p ≡ got z q
 -- ---- sequences
 
 -- calls that write the fields one after the other, of which nothing is known but that each meets its contract and is done
-pub data Written : List ℕ → BitWriter → List Field → List ℕ → BitWriter → Type 0 where
-  nothing : {o : List ℕ} {st : BitWriter} → Written o st [] o st
-  next : {o o₁ o₂ : List ℕ} {st st₁ st₂ : BitWriter} {f : Field} {fs : List Field}
-      → Writes st (Done st₁) o₁ (writeField o st f) → Written o₁ st₁ fs o₂ st₂ → Written o st (f ∷ fs) o₂ st₂
+pub data WritesFields : List ℕ → BitWriter → List Field → List ℕ → BitWriter → Type 0 where
+  nothing : {o : List ℕ} {st : BitWriter} → WritesFields o st [] o st
+  one-more : {o o₁ o₂ : List ℕ} {st st₁ st₂ : BitWriter} {f : Field} {fs : List Field}
+      → Writes st (Done st₁) o₁ (writeField o st f) → WritesFields o₁ st₁ fs o₂ st₂ → WritesFields o st (f ∷ fs) o₂ st₂
 
 -- the fields are read one after the other, from p up to q
 pub data ReadBack (s : List ℕ) : ℕ → List Field → ℕ → Type 0 where

@@ -1,7 +1,8 @@
 // The number of an answer: what a caller hands on where a call was refused.
 ghost use mathlib.Core.Path.{_≡_};
 ghost use mathlib.Core.List.{[]};
-ghost use Rattle.bits.specs.Answer.{number, toldNumber, wroteNumber, answer, bitAnswer, signedAnswer, movedAnswer, moreAnswer, mappedAnswer, outcome};
+ghost use Rattle.bits.specs.Answer.{number, toldNumber, wroteNumber, answer, bitAnswer, signedAnswer, movedAnswer, moreAnswer};
+ghost use Rattle.bits.specs.Answer.{mappedAnswer, outcome};
 use super::Bit;
 use super::Bits;
 use super::Mapped;

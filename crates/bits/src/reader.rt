@@ -2,7 +2,8 @@
 ghost use mathlib.Core.Path.{_≡_};
 ghost use Prim.Native.Nat.{_%_};
 ghost use lib.Dec.{eqb};
-ghost use Rattle.bits.specs.Answer.{newReader, pastEnd, entryAt, Reads, ReadsBit, ReadsSigned, Moves, readBits, readBit, readUe, readSe, skipped, moreBack, hasMore, finishRbsp, finishSei};
+ghost use Rattle.bits.specs.Answer.{newReader, pastEnd, entryAt, Reads, ReadsBit, ReadsSigned, Moves, readBits, readBit, readUe};
+ghost use Rattle.bits.specs.Answer.{readSe, skipped, moreBack, hasMore, finishRbsp, finishSei};
 use super::Bit;
 use super::BitPos;
 use super::BitReader;

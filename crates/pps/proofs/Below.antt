@@ -24,7 +24,7 @@ pub ue-enters : (s : List ℕ) (p v q : ℕ) → readUe s p ≡ got v q → Ente
 ue-enters s p v q e =
     let t = ue-codes .took s p v q e in
     let w = t .stands .within in
-    record { small = t .entered .small; within = omega (arith, t .next) }
+    record { small = t .entered .small; within = omega (arith, t .stops) }
 
 -- a field below its limit is ue(v), and below it
 pub below-is : (limit k : ℕ) (s : List ℕ) (p v q : ℕ) → ueBelow limit k s p ≡ got v q → (readUe s p ≡ got v q) × (v < limit)

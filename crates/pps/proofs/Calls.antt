@@ -1,4 +1,5 @@
--- What a read of slice groups says once it came to its end: where it stopped, on which bits it depends, and what the id buffer holds. Assumes nothing.
+-- What a read of slice groups says once it came to its end: where it stopped, on which bits it depends, and what the id buffer holds.
+-- Assumes nothing.
 use mathlib.Core.Path.{_≡_, refl, _∙_, subst}
 use mathlib.Core.List.{List, [], _∷_, _++_}
 use mathlib.Core.Bool.{Bool, true, false, cond}
@@ -39,7 +40,8 @@ module _ (s : List ℕ) (p n width units room : ℕ) (f : Fields) (q : ℕ) wher
           let fg : g ≡ f = cc in
           record { good = z; rule = w ∙ h; fits = subst (λ (y : Fields). length (idsIn y) ≤ room) fg (ltb-false room (length (idsIn g)) t) }
 
-      fields : (x : Ans Fields) → entryFor s p room width units (badGroupCount n) ≡ 0 → sliceGroups n width units s p ≡ x → roomed room x ≡ got f q → Came
+      fields : (x : Ans Fields) → entryFor s p room width units (badGroupCount n) ≡ 0 → sliceGroups n width units s p ≡ x → roomed room x ≡ got f q
+          → Came
       fields (got g r) z w h = room-test g r z w (ltb room (length (idsIn g))) refl h
       fields (no k) z w h = absurd (let x : _≡_ {A = ℕ} 0 1 = cc in omega arith)
 
@@ -65,7 +67,8 @@ module _ (s : List ℕ) (p n width units room : ℕ) (f : Fields) (q : ℕ) wher
         let w = same .within in
         let here = picture in
         simp (
-          entry-passes t p′ room width units (badGroupCount n) (record { small = same .small; within = omega arith }) (here .ids) (here .picture) (here .count),
+          entry-passes t p′ room width units (badGroupCount n) (record { small = same .small; within = omega arith })
+              (here .ids) (here .picture) (here .count),
           groups-local width units n .again s p f q t p′ (came done .rule) same,
           le-ltb room (length (idsIn f)) (came done .fits),
         )
@@ -76,7 +79,8 @@ row-long : (b : ℕ) (ids : List ℕ) → length (rowCode (bitsOf b) ids) ≡ le
 row-long b [] = omega arith
 row-long b (v ∷ ids) = length-append (bitsOf b v) (rowCode (bitsOf b) ids) ∙ omega (arith, length-bits-of b v, row-long b ids, suc-mul (length ids) b)
 
-kth-id : (b : ℕ) → b ≤ 32 → (s : List ℕ) (ids : List ℕ) (start : ℕ) → Entered s start → All (λ v. v < 2 ^ b) ids → Stands s start (rowCode (bitsOf b) ids)
+kth-id : (b : ℕ) → b ≤ 32 → (s : List ℕ) (ids : List ℕ) (start : ℕ) → Entered s start → All (λ v. v < 2 ^ b) ids
+    → Stands s start (rowCode (bitsOf b) ids)
     → (k : ℕ) → k < length ids → readBits s (start + k * b) b ≡ got (getD ids k 0) (start + (k + 1) * b)
 kth-id b h s [] start g ok st k l = absurd (let z : ⊥ = omega arith in z)
 kth-id b h s (v ∷ ids) start g ok st zero l =
@@ -102,7 +106,7 @@ ids-stand s p n width units room ids q done =
     let two = back-stands s (p + length (ueCode 6)) (ueCode (length ids - 1)) (rowCode (bitsOf b) ids) one in
     let w = two .within in
     record {
-      ends = t .next ∙ omega (
+      ends = t .stops ∙ omega (
         arith,
         length-append (ueCode 6) (ueCode (length ids - 1) ++ rowCode (bitsOf b) ids),
         length-append (ueCode (length ids - 1)) (rowCode (bitsOf b) ids),

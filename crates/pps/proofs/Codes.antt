@@ -12,7 +12,8 @@ use Rattle.desk.specs.Numbers.{badRunLength, badChangeRate, badPicSize}
 use Rattle.bits.specs.Reading.{Ans, got, no, andThen, bits, bitsOf, ueCode, AnyBit, Stands, Entered, Took, ReadsCodes, readUe}
 use Rattle.bits.proofs.Reading.{bits-codes, bit-codes, ue-codes}
 use Rattle.pps.specs.declared.SliceRect.{SliceRect}
-use Rattle.pps.specs.Rule.{mostUnits, ueBelow, row, bottomRightOk, corners, checkedRect, rectangle, idBits, Fields, interleaved, dispersed, foreground, changing, explicit, runLengths, rectangles, change, groupIds, byType, sliceGroups}
+use Rattle.pps.specs.Rule.{mostUnits, ueBelow, row, bottomRightOk, corners, checkedRect, rectangle, idBits, Fields, interleaved}
+use Rattle.pps.specs.Rule.{dispersed, foreground, changing, explicit, runLengths, rectangles, change, groupIds, byType, sliceGroups}
 use Rattle.pps.specs.Codes.{rowCode, RowOk, rectCode, RectOk, typeOf, fieldsCode, groupsCode, FieldsOk}
 
 -- ---- a code behind a code
@@ -33,7 +34,8 @@ module _ (s : List ℕ) (p : ℕ) (a b : List ℕ) where
       let l = length-append a b in
       record {
         within = omega arith;
-        there = sym (take-take (length a) (length (a ++ b)) (drop p (bits s)) (omega arith)) ∙ ap (take (length a)) (w .there) ∙ take-at a b (length a) refl;
+        there = sym (take-take (length a) (length (a ++ b)) (drop p (bits s)) (omega arith)) ∙ ap (take (length a)) (w .there)
+            ∙ take-at a b (length a) refl;
       }
 
   pub back-stands : Stands s p (a ++ b) → Stands s (p + length a) b
@@ -46,7 +48,8 @@ module _ (s : List ℕ) (p : ℕ) (a b : List ℕ) where
       ∙ ap (λ (n : ℕ). take n (drop p (bits s))) (sym l) ∙ w .there in
       record {
         within = omega arith;
-        there = ap (take (length b)) (sym (drop-drop (length a) p (bits s))) ∙ sym (drop-at a rest (length a) refl) ∙ ap (drop (length a)) all ∙ drop-at a b (length a) refl;
+        there = ap (take (length b)) (sym (drop-drop (length a) p (bits s))) ∙ sym (drop-at a rest (length a) refl) ∙ ap (drop (length a)) all
+            ∙ drop-at a b (length a) refl;
       }
 
 -- ---- readers of codes, behind the entry checks
@@ -63,11 +66,12 @@ ok-codes : {A : Type 0} {code : A → List ℕ} {Ok Ok′ : A → Type 0} {read 
     → Reader code Ok read → Reader code Ok′ read
 ok-codes to back r =
     record {
-      took = λ s p a q g e. let t = r .took s p a q g e in record { entered = t .entered; ok = to a (t .ok); stands = t .stands; next = t .next };
+      took = λ s p a q g e. let t = r .took s p a q g e in record { entered = t .entered; ok = to a (t .ok); stands = t .stands; stops = t .stops };
       gives = λ s p a g ok st. r .gives s p a g (back a ok) st;
     }
 
-cond-codes : {A : Type 0} {code : A → List ℕ} {Ok : A → Type 0} {f g : List ℕ → ℕ → Ans A} (b : Bool) → (b ≡ true → Reader code Ok f) → (b ≡ false → Reader code Ok g)
+cond-codes : {A : Type 0} {code : A → List ℕ} {Ok : A → Type 0} {f g : List ℕ → ℕ → Ans A} (b : Bool) → (b ≡ true → Reader code Ok f)
+    → (b ≡ false → Reader code Ok g)
     → Reader code Ok (λ s p. cond b (f s p) (g s p))
 cond-codes true f g = f refl
 cond-codes false f g = g refl
@@ -77,13 +81,15 @@ give-codes : Reader {A = Unit} (λ u. []) (λ u. Unit) (λ s p. got tt p)
 give-codes =
     record {
       took = λ s p a q g e. let pq : p ≡ q = cc in let w = g .within in
-          record { entered = g; ok = tt; stands = record { within = omega arith; there = refl }; next = omega arith };
+          record { entered = g; ok = tt; stands = record { within = omega arith; there = refl }; stops = omega arith };
       gives = λ s p a g ok st. ap (λ (k : ℕ). got tt k) (omega arith);
     }
 
 -- a field that is checked once it is read
-module _ {A : Type 0} {code : A → List ℕ} {Ok : A → Type 0} {f : List ℕ → ℕ → Ans A} (check : A → ℕ → Ans A) (Good : A → Type 0) (r : Reader code Ok f)
-    (sound : (a : A) (q : ℕ) (b : A) (e : ℕ) → check a q ≡ got b e → (got a q ≡ got b e) × Good a) (complete : (a : A) (q : ℕ) → Good a → check a q ≡ got a q) where
+module _ {A : Type 0} {code : A → List ℕ} {Ok : A → Type 0} {f : List ℕ → ℕ → Ans A} (check : A → ℕ → Ans A) (Good : A → Type 0)
+    (r : Reader code Ok f)
+    (sound : (a : A) (q : ℕ) (b : A) (e : ℕ) → check a q ≡ got b e → (got a q ≡ got b e) × Good a)
+    (complete : (a : A) (q : ℕ) → Good a → check a q ≡ got a q) where
   checked-codes : Reader code (λ a. Ok a × Good a) (λ s p. andThen (f s p) check)
   checked-codes = record { took = took; gives = λ s p a g ok st. rw (r .gives s p a g (ok .0) st) (complete a (p + length (code a)) (ok .1)) }
     where
@@ -95,7 +101,7 @@ module _ {A : Type 0} {code : A → List ℕ} {Ok : A → Type 0} {f : List ℕ 
               let so = sound a q b e c in
               let t = r .took s p b e g (w ∙ so .0) in
               let ab : a ≡ b = let same = so .0 in cc in
-              record { entered = t .entered; ok = (t .ok, subst Good ab (so .1)); stands = t .stands; next = t .next }
+              record { entered = t .entered; ok = (t .ok, subst Good ab (so .1)); stands = t .stands; stops = t .stops }
           go (no k) w c = absurd (let z : _≡_ {A = ℕ} 0 1 = cc in omega arith)
 
 -- what a value was made of
@@ -111,24 +117,26 @@ module _ {A B C : Type 0} {codeA : A → List ℕ} {OkA : A → Type 0} {f : Lis
     {g : A → List ℕ → ℕ → Ans B} (make : A → B → C) (code : C → List ℕ) (Ok : C → Type 0) (rf : Reader codeA OkA f)
     (rg : (a : A) → Reader (codeB a) (OkB a) (g a)) (made-code : (a : A) (b : B) → OkB a b → code (make a b) ≡ codeA a ++ codeB a b)
     (made-ok : (a : A) (b : B) → OkA a → OkB a b → Ok (make a b)) (parts : (c : C) → Ok c → Parts OkA OkB make c) where
-  chain-took : (s : List ℕ) (p : ℕ) (c : C) (e : ℕ) → Entered s p → andThen (f s p) (λ a q. andThen (g a s q) (λ b r. got (make a b) r)) ≡ got c e → Took code Ok s p c e
+  chain-took : (s : List ℕ) (p : ℕ) (c : C) (e : ℕ) → Entered s p → andThen (f s p) (λ a q. andThen (g a s q) (λ b r. got (make a b) r)) ≡ got c e
+      → Took code Ok s p c e
   chain-took s p c e en h = go (f s p) refl h
     where
       second : (a : A) (q : ℕ) → f s p ≡ got a q → (y : Ans B) → g a s q ≡ y → andThen y (λ b r. got (make a b) r) ≡ got c e → Took code Ok s p c e
       second a q w (got b r) v h =
           let ta = rf .took s p a q en w in
           let wa = ta .stands .within in
-          let na = ta .next in
+          let na = ta .stops in
           let tb = rg a .took s q b r (record { small = en .small; within = omega arith }) v in
-          let nb = tb .next in
+          let nb = tb .stops in
           let ec : make a b ≡ c = cc in
           let re : r ≡ e = cc in
           let ecode : codeA a ++ codeB a b ≡ code c = sym (made-code a b (tb .ok)) ∙ ap code ec in
           record {
             entered = en;
             ok = subst Ok ec (made-ok a b (ta .ok) (tb .ok));
-            stands = subst (Stands s p) ecode (both-stand s p (codeA a) (codeB a b) (ta .stands) (subst (λ (k : ℕ). Stands s k (codeB a b)) na (tb .stands)));
-            next = omega (arith, length-append (codeA a) (codeB a b), ap length ecode);
+            stands = subst (Stands s p) ecode
+                (both-stand s p (codeA a) (codeB a b) (ta .stands) (subst (λ (k : ℕ). Stands s k (codeB a b)) na (tb .stands)));
+            stops = omega (arith, length-append (codeA a) (codeB a b), ap length ecode);
           }
       second a q w (no k) v h = absurd (let z : _≡_ {A = ℕ} 0 1 = cc in omega arith)
 
@@ -162,10 +170,11 @@ row-codes {A} {code} {Ok} {field} r zero = record { took = took; gives = gives }
   where
     took : (s : List ℕ) (p : ℕ) (xs : List A) (q : ℕ) → Entered s p → got [] p ≡ got xs q → Took (rowCode code) (RowOk Ok 0) s p xs q
     took s p [] q g e = let pq : p ≡ q = cc in let w = g .within in
-        record { entered = g; ok = record { many = refl; each = tt }; stands = record { within = omega arith; there = refl }; next = omega arith }
+        record { entered = g; ok = record { many = refl; each = tt }; stands = record { within = omega arith; there = refl }; stops = omega arith }
     took s p (x ∷ xs) q g e = absurd (let z : _≡_ {A = ℕ} 0 1 = cc in omega arith)
 
-    gives : (s : List ℕ) (p : ℕ) (xs : List A) → Entered s p → RowOk Ok 0 xs → Stands s p (rowCode code xs) → got [] p ≡ got xs (p + length (rowCode code xs))
+    gives : (s : List ℕ) (p : ℕ) (xs : List A) → Entered s p → RowOk Ok 0 xs → Stands s p (rowCode code xs)
+        → got [] p ≡ got xs (p + length (rowCode code xs))
     gives s p [] g ok st = ap (λ (k : ℕ). got [] k) (omega arith)
     gives s p (x ∷ xs) g ok st = absurd (let z : ⊥ = omega (arith, ok .many) in z)
 row-codes {A} {code} {Ok} {field} r (suc count) =
@@ -174,7 +183,8 @@ row-codes {A} {code} {Ok} {field} r (suc count) =
   where
     parts : (xs : List A) → RowOk Ok (suc count) xs → Parts Ok (λ a. RowOk Ok count) (λ a rest. a ∷ rest) xs
     parts [] ok = absurd (let z : ⊥ = omega (arith, ok .many) in z)
-    parts (a ∷ rest) ok = record { a = a; b = rest; is = refl; okA = ok .each .0; okB = record { many = omega (arith, ok .many); each = ok .each .1 } }
+    parts (a ∷ rest) ok =
+        record { a = a; b = rest; is = refl; okA = ok .each .0; okB = record { many = omega (arith, ok .many); each = ok .each .1 } }
 
 below-codes : (limit k : ℕ) → limit ≤ mostUnits → Reader ueCode (λ v. v < limit) (ueBelow limit k)
 unfolding ueBelow
@@ -198,11 +208,13 @@ module _ (width units : ℕ) (few : units ≤ mostUnits) where
       (λ rect. (rect .«top_left» < 4294967295) × (rect .«bottom_right» < 4294967295)) (of-codes ue-codes) (λ tl. of-codes ue-codes) (λ tl br ok. refl)
       (λ tl br a b. (a, b)) (λ rect ok. record { a = rect .«top_left»; b = rect .«bottom_right»; is = refl; okA = ok .0; okB = ok .1 })
 
-  check-sound : (rect : SliceRect) (q : ℕ) (b : SliceRect) (e : ℕ) → checkedRect width units rect q ≡ got b e → (got rect q ≡ got b e) × RectOk width units rect
+  check-sound : (rect : SliceRect) (q : ℕ) (b : SliceRect) (e : ℕ) → checkedRect width units rect q ≡ got b e
+      → (got rect q ≡ got b e) × RectOk width units rect
   check-sound rect q b e h = order (ltb (rect .«bottom_right») (rect .«top_left»)) refl h
     where
       columns : rect .«top_left» ≤ rect .«bottom_right» → bottomRightOk units (rect .«bottom_right») ≡ true → (c : Bool)
-          → ltb (rect .«bottom_right» % width) (rect .«top_left» % width) ≡ c → cond c (no 14) (got rect q) ≡ got b e → (got rect q ≡ got b e) × RectOk width units rect
+          → ltb (rect .«bottom_right» % width) (rect .«top_left» % width) ≡ c → cond c (no 14) (got rect q) ≡ got b e
+          → (got rect q ≡ got b e) × RectOk width units rect
       columns o w true t h = absurd (let z : _≡_ {A = ℕ} 0 1 = cc in omega arith)
       columns o w false t h = (h, record { order = o; within = w; columns = ltb-false (rect .«bottom_right» % width) (rect .«top_left» % width) t })
 
@@ -213,14 +225,20 @@ module _ (width units : ℕ) (few : units ≤ mostUnits) where
       within o false t h = absurd (let z : _≡_ {A = ℕ} 0 1 = cc in omega arith)
 
       order : (c : Bool) → ltb (rect .«bottom_right») (rect .«top_left») ≡ c
-          → cond c (no 14) (cond (bottomRightOk units (rect .«bottom_right»)) (cond (ltb (rect .«bottom_right» % width) (rect .«top_left» % width)) (no 14) (got rect q)) (no 15)) ≡ got b e
+          → cond c (no 14)
+          (cond (bottomRightOk units (rect .«bottom_right»))
+          (cond (ltb (rect .«bottom_right» % width) (rect .«top_left» % width)) (no 14) (got rect q)) (no 15)) ≡ got b e
           → (got rect q ≡ got b e) × RectOk width units rect
       order true t h = absurd (let z : _≡_ {A = ℕ} 0 1 = cc in omega arith)
       order false t h = within (ltb-false (rect .«bottom_right») (rect .«top_left») t) (bottomRightOk units (rect .«bottom_right»)) refl h
 
   check-complete : (rect : SliceRect) (q : ℕ) → RectOk width units rect → checkedRect width units rect q ≡ got rect q
   check-complete rect q ok =
-      simp (le-ltb (rect .«bottom_right») (rect .«top_left») (ok .order), ok .within, le-ltb (rect .«bottom_right» % width) (rect .«top_left» % width) (ok .columns))
+      simp (
+        le-ltb (rect .«bottom_right») (rect .«top_left») (ok .order),
+        ok .within,
+        le-ltb (rect .«bottom_right» % width) (rect .«top_left» % width) (ok .columns),
+      )
 
   rectangle-codes : Reader rectCode (RectOk width units) (rectangle width units)
   unfolding rectangle
@@ -242,7 +260,8 @@ module _ (width units : ℕ) (few : units ≤ mostUnits) where
     runs-arm : (t : ℕ) → t ≡ 0 → Arm t (runLengths n units)
     unfolding runLengths
     runs-arm t e =
-        chain {OkB = λ runs u. Unit {0}} (λ runs (u : Unit {0}). interleaved runs) (fieldsCode n) (Of t) (row-codes (below-codes units badRunLength few) (n + 1))
+        chain {OkB = λ runs u. Unit {0}} (λ runs (u : Unit {0}). interleaved runs) (fieldsCode n) (Of t)
+        (row-codes (below-codes units badRunLength few) (n + 1))
         (λ runs. give-codes) (λ runs u ok. sym (append-nil (rowCode ueCode runs))) (λ runs u ok v. (ok, sym e)) parts
       where
         parts : (f : Fields) → Of t f → Parts (RowOk (λ v. v < units) (n + 1)) (λ runs u. Unit {0}) (λ runs (u : Unit {0}). interleaved runs) f
@@ -254,7 +273,8 @@ module _ (width units : ℕ) (few : units ≤ mostUnits) where
 
     none-arm : (t : ℕ) → t ≡ 1 → Arm t (λ s p. got dispersed p)
     none-arm t e =
-        chain {f = λ s p. got tt p} {g = λ u s p. got tt p} (λ (u : Unit {0}) (v : Unit {0}). dispersed) (fieldsCode n) (Of t) give-codes (λ u. give-codes) (λ u v ok. refl) (λ u v a b. (tt, sym e)) parts
+        chain {f = λ s p. got tt p} {g = λ u s p. got tt p} (λ (u : Unit {0}) (v : Unit {0}). dispersed) (fieldsCode n) (Of t) give-codes
+        (λ u. give-codes) (λ u v ok. refl) (λ u v a b. (tt, sym e)) parts
       where
         parts : (f : Fields) → Of t f → Parts (λ u. Unit {0}) (λ u v. Unit {0}) (λ (u : Unit {0}) (v : Unit {0}). dispersed) f
         parts (interleaved runs) ok = absurd (let z : ⊥ = omega (arith, ok .1) in z)
@@ -280,13 +300,15 @@ module _ (width units : ℕ) (few : units ≤ mostUnits) where
     unfolding change
     change-arm t from to =
         chain {OkB = λ flag rate. rate < units} (λ flag rate. changing t flag rate) (fieldsCode n) (Of t) (of-codes bit-codes)
-        (λ flag. below-codes units badChangeRate few) (λ flag rate ok. refl) (λ flag rate a b. (record { from = from; to = to; below = b }, refl)) parts
+        (λ flag. below-codes units badChangeRate few) (λ flag rate ok. refl)
+        (λ flag rate a b. (record { from = from; to = to; below = b }, refl)) parts
       where
         parts : (f : Fields) → Of t f → Parts AnyBit (λ flag rate. rate < units) (λ flag rate. changing t flag rate) f
         parts (interleaved runs) ok = absurd (let z : ⊥ = omega (arith, ok .1) in z)
         parts dispersed ok = absurd (let z : ⊥ = omega (arith, ok .1) in z)
         parts (foreground rects) ok = absurd (let z : ⊥ = omega (arith, ok .1) in z)
-        parts (changing u flag rate) ok = record { a = flag; b = rate; is = ap (λ (k : ℕ). changing k flag rate) (ok .1); okA = tt; okB = ok .0 .below }
+        parts (changing u flag rate) ok =
+            record { a = flag; b = rate; is = ap (λ (k : ℕ). changing k flag rate) (ok .1); okA = tt; okB = ok .0 .below }
         parts (explicit ids) ok = absurd (let z : ⊥ = omega (arith, ok .1) in z)
 
     ids-arm : (t : ℕ) → t ≡ 6 → Arm t (groupIds n units)
@@ -304,7 +326,13 @@ module _ (width units : ℕ) (few : units ≤ mostUnits) where
         parts (changing u flag rate) ok = absurd (let z : ⊥ = omega (arith, ok .1, ok .0 .to) in z)
         parts (explicit ids) ok =
             let i = ok .0 in
-            record { a = length ids - 1; b = ids; is = refl; okA = omega (arith, i .some, i .few); okB = record { many = omega (arith, i .some); each = i .each } }
+            record {
+              a = length ids - 1;
+              b = ids;
+              is = refl;
+              okA = omega (arith, i .some, i .few);
+              okB = record { many = omega (arith, i .some); each = i .each };
+            }
 
     -- no fields have a type over 6
     rest-arm : (t : ℕ) → 6 < t → Arm t (λ s p. no 12)
@@ -332,7 +360,8 @@ module _ (width units : ℕ) (few : units ≤ mostUnits) where
         over : (t : ℕ) → 5 < t → (t ≡ 6 → ⊥) → 6 < t
         over t a b = omega arith
 
-    whole-codes : Reader (groupsCode n) (FieldsOk n width units) (λ s p. andThen (readUe s p) (λ t q. andThen (byType n width units t s q) (λ f r. got f r)))
+    whole-codes : Reader (groupsCode n) (FieldsOk n width units)
+        (λ s p. andThen (readUe s p) (λ t q. andThen (byType n width units t s q) (λ f r. got f r)))
     whole-codes =
         chain {OkB = λ t f. Of t f} (λ t f. f) (groupsCode n) (FieldsOk n width units) (of-codes ue-codes) by-type-codes
         (λ t f ok. ap (λ (k : ℕ). ueCode k ++ fieldsCode n f) (ok .1)) (λ t f a ok. ok .0)
@@ -354,7 +383,8 @@ module _ (width units : ℕ) (few : units ≤ mostUnits) where
     whole s p (got t q) = again (byType n width units t s q)
     whole s p (no k) = refl
 
-    -- THE LAW: what is read are the fields in range whose code stands there, up to its end; and where the code of fields in range stands, they are read
+    -- THE LAW: what is read are the fields in range whose code stands there, up to its end; and where the code of fields in range stands,
+    -- they are read
     pub groups-codes : ReadsCodes (groupsCode n) (FieldsOk n width units) (sliceGroups n width units)
     unfolding sliceGroups
     groups-codes =
@@ -363,6 +393,7 @@ module _ (width units : ℕ) (few : units ≤ mostUnits) where
           gives = λ s p f g ok st. sym (whole s p (readUe s p)) ∙ whole-codes .gives s p f g ok st;
         }
       where
-        first : (s : List ℕ) (p : ℕ) (f : Fields) (q : ℕ) (x : Ans ℕ) → readUe s p ≡ x → andThen x (λ t r. byType n width units t s r) ≡ got f q → Entered s p
+        first : (s : List ℕ) (p : ℕ) (f : Fields) (q : ℕ) (x : Ans ℕ) → readUe s p ≡ x → andThen x (λ t r. byType n width units t s r) ≡ got f q
+            → Entered s p
         first s p f q (got t r) w e = ue-codes .took s p t r w .entered
         first s p f q (no k) w e = absurd (let z : _≡_ {A = ℕ} 0 1 = cc in omega arith)

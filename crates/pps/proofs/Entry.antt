@@ -11,7 +11,7 @@ use Rattle.desk.specs.Numbers.{most, anyOver, entryOf, badGeometry, done}
 use Rattle.desk.proofs.Entering.{entry-passed, entry-done, entry-long, entry-bad}
 use Rattle.bits.specs.Reading.{pastEnd, Entered, size as bitsIn}
 use Rattle.bits.proofs.Refusing.{not-past, is-past}
-use Rattle.bits.proofs.Entry.{enters}
+use Rattle.bits.proofs.Entry.{enters, neither}
 use Rattle.pps.specs.Rule.{mostUnits, badPicture, badGroupCount}
 use Rattle.pps.specs.Answer.{firstOf, entryFor}
 
@@ -19,23 +19,20 @@ first-nonzero : (a b : ℕ) → (a ≡ 0 → ⊥) → firstOf a b ≡ a
 first-nonzero zero b h = absurd (h refl)
 first-nonzero (suc a) b h = refl
 
-module _ (s : List ℕ) (p room width size : ℕ) (badCount : Bool) where
+module _ (s : List ℕ) (p room width size : ℕ) (badCount past : Bool) (is : past ≡ pastEnd s p) (k : ℕ)
+    (e : k ≡ entryOf (length s ∷ room ∷ 0 ∷ []) past) where
   -- 1 and 2 come first
-  pub entry-first : (k : ℕ) → k ≡ entryOf (length s ∷ room ∷ 0 ∷ []) (pastEnd s p) → (k ≡ 0 → ⊥) → k ≡ entryFor s p room width size badCount
+  pub entry-first : (k ≡ 0 → ⊥) → k ≡ entryFor s p room width size badCount
   unfolding entryFor
-  entry-first k e h = rw (← e) (sym (first-nonzero k _ h))
+  entry-first h = rw (← is, ← e) (sym (first-nonzero k _ h))
 
   -- and then 11
-  pub entry-then : (k : ℕ) → k ≡ entryOf (length s ∷ room ∷ 0 ∷ []) (pastEnd s p) → k ≡ 0 → (bad : Bool) → (badPicture width size || badCount) ≡ bad
+  pub entry-then : k ≡ 0 → (bad : Bool) → (badPicture width size || badCount) ≡ bad
       → cond bad badGeometry done ≡ entryFor s p room width size badCount
   unfolding entryFor
-  entry-then k e h bad b = rw (sym e ∙ h, b)
+  entry-then h bad b = rw (← is, sym e ∙ h, b)
 
 -- ---- what passes them
-
-or-false : (a b : Bool) → (a || b) ≡ false → (a ≡ false) × (b ≡ false)
-or-false true b e = absurd (let z : _≡_ {A = ℕ} 0 1 = cc in omega arith)
-or-false false b e = (refl, e)
 
 first-zero : (a b : ℕ) → firstOf a b ≡ 0 → (a ≡ 0) × (b ≡ 0)
 first-zero zero b e = (refl, e)
@@ -60,10 +57,10 @@ unfolding entryFor badPicture
 passed s p room width size badCount e =
     let both = first-zero (entryOf (length s ∷ room ∷ 0 ∷ []) (pastEnd s p)) (cond (badPicture width size || badCount) badGeometry done) e in
     let few = entry-passed (length s ∷ room ∷ 0 ∷ []) (pastEnd s p) (both .0) in
-    let good = or-false (badPicture width size) badCount (not-bad (badPicture width size || badCount) (both .1)) in
-    let w = or-false (eqb width 0) _ (good .0) in
-    let z = or-false (eqb size 0) _ (w .1) in
-    let m = or-false (ltb mostUnits size) _ (z .1) in
+    let good = neither (badPicture width size) badCount (not-bad (badPicture width size || badCount) (both .1)) in
+    let w = neither (eqb width 0) _ (good .0) in
+    let z = neither (eqb size 0) _ (w .1) in
+    let m = neither (ltb mostUnits size) _ (z .1) in
     let nw = eqb-false width 0 (w .0) in
     let nz = eqb-false size 0 (z .0) in
     record {
@@ -79,7 +76,7 @@ passed s p room width size badCount e =
 -- 1 to 7 groups beside the first
 pub groups-few : (n : ℕ) → badGroupCount n ≡ false → (1 ≤ n) × (n ≤ 7)
 unfolding badGroupCount
-groups-few n e = let b = or-false (ltb n 1) (ltb 7 n) e in (ltb-false n 1 (b .0), ltb-false 7 n (b .1))
+groups-few n e = let b = neither (ltb n 1) (ltb 7 n) e in (ltb-false n 1 (b .0), ltb-false 7 n (b .1))
 
 -- so the reader of slice groups knows
 pub record GoodRead (s : List ℕ) (p width size n : ℕ) : Type 0 where
@@ -89,11 +86,10 @@ pub record GoodRead (s : List ℕ) (p width size n : ℕ) : Type 0 where
   pub some : 1 ≤ n
   pub few : n ≤ 7
 
-pub good-read : (s : List ℕ) (p room width size n : ℕ) (badCount : Bool) (k : ℕ) → badCount ≡ badGroupCount n → k ≡ entryFor s p room width size badCount → k ≡ 0
-    → GoodRead s p width size n
-good-read s p room width size n badCount k eb e z =
-    let good = passed s p room width size badCount (sym e ∙ z) in
-    let count = groups-few n (sym eb ∙ good .count) in
+pub good-read : (s : List ℕ) (p room width size n : ℕ) → entryFor s p room width size (badGroupCount n) ≡ 0 → GoodRead s p width size n
+good-read s p room width size n e =
+    let good = passed s p room width size (badGroupCount n) e in
+    let count = groups-few n (good .count) in
     record { entered = good .entered; wide = good .wide; limit = good .limit; some = count .0; few = count .1 }
 
 -- ---- each number, given exactly where document 01 says

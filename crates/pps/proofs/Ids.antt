@@ -5,14 +5,12 @@ use mathlib.Core.Bool.{Bool, true, false, cond}
 use Prim.Native.Nat.{ℕ, zero, suc, _+_, _-_, _*_, _^_, _≤_, _<_}
 use native.Mathlib.Omega.{arith}
 use native.Mathlib.Nat.{pow-suc}
-use native.Mathlib.Decide.{decLt}
-use mathlib.Core.Logic.{dite}
 use borrow.Author.Tests.{leb-true, leb-false}
 use lib.Dec.{leb}
-use lib.Pow.{pow-mono}
 use lib.ListN.{take}
 use native.Mathlib.Nat.{suc-mul}
 use Rattle.bits.specs.Reading.{Ans, got, no, andThen, readBits, size, Entered, long, past, WhyBits, bitsEntry, bitsWide, bitsShort}
+use Rattle.bits.proofs.Value.{pow-lt-cancel}
 use Rattle.bits.proofs.Reading.{bits-codes, bits-refused}
 use Rattle.bits.proofs.Refusing.{bits-number}
 use Rattle.bits.proofs.Codes.{length-bits-of}
@@ -21,9 +19,6 @@ use Rattle.pps.specs.Codes.{LeastPower}
 use Rattle.pps.specs.Step.{RowSo, IdsPut}
 use Rattle.desk.specs.Room.{written}
 use Rattle.pps.proofs.Rows.{row-read, row-stands}
-
-power-lt : (b k : ℕ) → 2 ^ b < 2 ^ k → b < k
-power-lt b k h = dite (decLt b k) (λ l. l) (λ n. let z : ⊥ = omega (arith, pow-mono {i = k} {j = b} (omega arith)) in absurd z)
 
 least-from : (count b m : ℕ) → m ≤ 2 ^ (b + count) → ((k : ℕ) → m ≤ 2 ^ k → b ≤ k) → LeastPower m (leastFrom count b m)
 unfolding leastFrom
@@ -36,7 +31,7 @@ least-from (suc count) b m h l = go (leb m (2 ^ b)) refl (least-from count (suc 
     go true e ih = record { reaches = leb-true m (2 ^ b) e; least = l }
     go false e ih =
         let n : b + suc count ≡ suc b + count = omega arith in
-        ih (subst (λ (k : ℕ). m ≤ 2 ^ k) n h) (λ k r. power-lt b k (omega (arith, leb-false m (2 ^ b) e)))
+        ih (subst (λ (k : ℕ). m ≤ 2 ^ k) n h) (λ k r. pow-lt-cancel (omega (arith, leb-false m (2 ^ b) e)))
 
 at-most-power : (n : ℕ) → n + 1 ≤ 2 ^ n
 at-most-power zero = omega arith
@@ -54,14 +49,14 @@ pub id-bits-is : (n b : ℕ) → 2 ^ b ≤ n → n < 2 ^ suc b → idBits n ≡ 
 id-bits-is n b l h =
     let w = id-bits-least n in
     let r = w .reaches in
-    omega (arith, w .least (suc b) (omega arith), power-lt b (idBits n) (omega arith))
+    omega (arith, w .least (suc b) (omega arith), pow-lt-cancel {a = b} {b = idBits n} (omega arith))
 
 -- ---- count fields of b bits
 
 module _ (b : ℕ) (narrow : b ≤ 32) where
   -- where one ends
   bits-end : (s : List ℕ) (p v q : ℕ) → readBits s p b ≡ got v q → q ≡ p + b
-  bits-end s p v q e = omega (arith, bits-codes b narrow .took s p v q e .next, length-bits-of b v)
+  bits-end s p v q e = omega (arith, bits-codes b narrow .took s p v q e .stops, length-bits-of b v)
 
   -- where the bits of all are there, none is refused
   pub ids-there : (count : ℕ) (s : List ℕ) (p k : ℕ) → Entered s p → p + count * b ≤ size s → row (λ s p. readBits s p b) count s p ≡ no k → ⊥
@@ -104,7 +99,8 @@ module _ (b : ℕ) (narrow : b ≤ 32) where
       go (no j) f ih = ap no (bits-number s p g j b narrow f)
 
 -- a row of ids that came to its end
-pub ids-put : (b count : ℕ) (s : List ℕ) (p : ℕ) (ids : List ℕ) (i : ℕ) (xs : List ℕ) (at : ℕ) → RowSo (λ s p. readBits s p b) s count p ids i xs at → count ≤ i
+pub ids-put : (b count : ℕ) (s : List ℕ) (p : ℕ) (ids : List ℕ) (i : ℕ) (xs : List ℕ) (at : ℕ)
+    → RowSo (λ s p. readBits s p b) s count p ids i xs at → count ≤ i
     → IdsPut s p count b ids xs at
 ids-put b count s p ids i xs at so h =
     let e : i ≡ count = omega (arith, so .within) in

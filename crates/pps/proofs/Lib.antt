@@ -6,7 +6,6 @@ pub mod Entry
 pub mod Results
 pub mod Local
 pub mod Back
-pub mod Concrete
 pub mod Sheets
 pub mod Reach
 pub mod Codes

@@ -5,7 +5,8 @@ use lib.Dec.{ltb, leb, eqb}
 use Rattle.desk.specs.Numbers.{badMapType, badRunLength, invalidTopLeft, invalidBottomRight, badChangeRate, badPicSize}
 use Rattle.bits.specs.Reading.{Ans, Local}
 use Rattle.bits.proofs.Locality.{ue-local, bit-local, bits-local, then-local, cond-local, give-local, refuse-local}
-use Rattle.pps.specs.Rule.{ueBelow, row, bottomRightOk, rectangle, idBits, interleaved, dispersed, foreground, changing, explicit, runLengths, rectangles, change, groupIds, byType, sliceGroups}
+use Rattle.pps.specs.Rule.{ueBelow, row, bottomRightOk, rectangle, idBits, interleaved, dispersed, foreground, changing, explicit}
+use Rattle.pps.specs.Rule.{runLengths, rectangles, change, groupIds, byType, sliceGroups}
 
 pub below-local : (limit k : ℕ) → Local (ueBelow limit k)
 unfolding ueBelow

@@ -4,24 +4,32 @@ use mathlib.Core.List.{List, [], _∷_}
 use mathlib.Core.Bool.{true, false, _||_}
 use Prim.Native.Nat.{ℕ, suc, _≤_, _<_}
 use native.Mathlib.Omega.{arith}
+use borrow.Author.Tests.{lt-ltb}
 use lib.Dec.{lit≤, lit<}
 use lib.ListN.{length}
 use Rattle.desk.specs.Numbers.{most, anyOver}
-use Rattle.bits.specs.Reading.{got, no, readUe, Entered, long, past, ueEntry, ueNone, ueMany}
+use Rattle.bits.specs.Reading.{got, no, readUe, Entered, past, ueEntry}
+use Rattle.bits.proofs.Concrete.{bits-here, flag-here, ue-here, none-here, many-here}
 use Rattle.bits.proofs.Refusing.{ue-refuse}
-use Rattle.bits.proofs.Value.{value-zero}
-use Rattle.pps.specs.Rule.{mostUnits, badPicture, badGroupCount, bottomRightOk, rectangle, ueBelow, row, numRefIdx, dispersed, runLengths, rectangles, change, groupIds, byType, sliceGroups}
+use Rattle.bits.proofs.Reach.{long as tooMany, over, number-1}
+use Rattle.pps.specs.Rule.{mostUnits, badPicture, badGroupCount, bottomRightOk, rectangle, ueBelow, row, numRefIdx, dispersed}
+use Rattle.pps.specs.Rule.{runLengths, rectangles, change, groupIds, byType, sliceGroups}
 use Rattle.pps.specs.Answer.{entryFor, rectOf, groupsOf}
-use Rattle.pps.proofs.Concrete.{ue-here, bits-here, flag-here, made}
 use Rattle.pps.proofs.Entry.{entry-passes, entry-1, entry-2, entry-11}
 use Rattle.pps.proofs.Ids.{id-bits-is}
 
 -- ---- SliceGroup::read, with no id buffer unless it is named
 
--- 1 by a law: bytes, or an id buffer, over the limit
-pub reach-1 : (s : List ℕ) (p n width units room : ℕ) → anyOver (length s ∷ room ∷ 0 ∷ []) ≡ true → groupsOf s p n width units room ≡ no 1
+groups-long : (s : List ℕ) (room : ℕ) → anyOver (length s ∷ room ∷ 0 ∷ []) ≡ true → groupsOf s 0 1 1 1 room ≡ no 1
 unfolding groupsOf
-reach-1 s p n width units room h = simp (entry-1 s p room width units (badGroupCount n) h)
+groups-long s room h = simp (entry-1 s 0 room 1 1 (badGroupCount 1) h)
+
+over-limit : (room : ℕ) → anyOver (length tooMany ∷ room ∷ 0 ∷ []) ≡ true
+over-limit room = rw (lt-ltb most (length tooMany) over)
+
+-- 16,777,217 bytes; an id buffer of as many
+pub reach-1 : (groupsOf tooMany 0 1 1 1 0 ≡ no 1) × (groupsOf [] 0 1 1 1 16777217 ≡ no 1)
+reach-1 = (groups-long tooMany 0 (over-limit 0), groups-long [] 16777217 refl)
 
 -- place 1 of no bytes
 pub reach-2 : groupsOf [] 1 1 1 1 0 ≡ no 2
@@ -36,10 +44,16 @@ unfolding groupsOf
 no-picture n width units h = simp (entry-11 [] 0 0 width units (badGroupCount n) (start [] (lit≤ tt)) (lit≤ tt) h)
 
 -- each cause of 11: width 0, size 0, size no multiple of the width, size over the limit; n of 0 and of 8
-pub reach-11 : (groupsOf [] 0 1 0 1 0 ≡ no 11) × (groupsOf [] 0 1 1 0 0 ≡ no 11) × (groupsOf [] 0 1 2 3 0 ≡ no 11) × (groupsOf [] 0 1 1 36865 0 ≡ no 11)
-    × (groupsOf [] 0 0 1 1 0 ≡ no 11) × (groupsOf [] 0 8 1 1 0 ≡ no 11)
+pub reach-11 :
+    (groupsOf [] 0 1 0 1 0 ≡ no 11)
+    × (groupsOf [] 0 1 1 0 0 ≡ no 11)
+    × (groupsOf [] 0 1 2 3 0 ≡ no 11)
+    × (groupsOf [] 0 1 1 36865 0 ≡ no 11)
+    × (groupsOf [] 0 0 1 1 0 ≡ no 11)
+    × (groupsOf [] 0 8 1 1 0 ≡ no 11)
 unfolding badPicture badGroupCount
-reach-11 = (no-picture 1 0 1 refl, no-picture 1 1 0 refl, no-picture 1 2 3 refl, no-picture 1 1 36865 refl, no-picture 0 1 1 refl, no-picture 8 1 1 refl)
+reach-11 =
+    (no-picture 1 0 1 refl, no-picture 1 1 0 refl, no-picture 1 2 3 refl, no-picture 1 1 36865 refl, no-picture 0 1 1 refl, no-picture 8 1 1 refl)
 
 -- what passes the entry checks answers by its fields
 by-fields : (s : List ℕ) (n width units room : ℕ) → length s ≤ most → room ≤ most → badPicture width units ≡ false → badGroupCount n ≡ false
@@ -47,7 +61,7 @@ by-fields : (s : List ℕ) (n width units room : ℕ) → length s ≤ most → 
 by-fields s n width units room h r a b = entry-passes s 0 room width units (badGroupCount n) (start s h) r a b
 
 no-ue : readUe [] 0 ≡ no 4
-no-ue = ue-refuse (ueNone (start [] (lit≤ tt)) (value-zero [] 0))
+no-ue = none-here [] 0 refl
 
 -- no bytes
 pub reach-4 : groupsOf [] 0 1 1 1 0 ≡ no 4
@@ -55,9 +69,7 @@ unfolding groupsOf sliceGroups badPicture badGroupCount
 reach-4 = simp (by-fields [] 1 1 1 0 (lit≤ tt) (lit≤ tt) refl refl, no-ue)
 
 many-zeros : readUe (0 ∷ 0 ∷ 0 ∷ 0 ∷ 0x80 ∷ []) 0 ≡ no 5
-many-zeros =
-    let s : List ℕ = 0 ∷ 0 ∷ 0 ∷ 0 ∷ 0x80 ∷ [] in
-    ue-refuse (ueMany 32 (start s (lit≤ tt)) (record { within = lit< tt; one = made s 0 33 1 refl .value }) (lit< tt))
+many-zeros = many-here (0 ∷ 0 ∷ 0 ∷ 0 ∷ 0x80 ∷ []) 0 32 refl
 
 -- 32 zeros and a one
 pub reach-5 : groupsOf (0 ∷ 0 ∷ 0 ∷ 0 ∷ 0x80 ∷ []) 0 1 1 1 0 ≡ no 5
@@ -115,7 +127,7 @@ pub reach-16 : groupsOf (0x21 ∷ 0x00 ∷ []) 0 1 1 1 0 ≡ no 16
 unfolding groupsOf sliceGroups byType change ueBelow badPicture badGroupCount
 reach-16 =
     let s : List ℕ = 0x21 ∷ 0x00 ∷ [] in
-    simp (by-fields s 1 1 1 0 (lit≤ tt) (lit≤ tt) refl refl, ue-here s 0 2 3 refl, flag-here s 5 refl, ue-here s 6 1 1 refl)
+    simp (by-fields s 1 1 1 0 (lit≤ tt) (lit≤ tt) refl refl, ue-here s 0 2 3 refl, flag-here s 5 false refl, ue-here s 6 1 1 refl)
 
 -- type 6 and 1 + 1 ids in a picture of 1
 pub reach-17 : groupsOf (0x3A ∷ []) 0 1 1 1 0 ≡ no 17
@@ -139,9 +151,9 @@ module _ (s : List ℕ) (p width units : ℕ) where
   unfolding rectOf
   rect-fields e = simp e
 
--- 1 by a law
-pub reach-rect-1 : (s : List ℕ) (p width units : ℕ) → anyOver (length s ∷ 0 ∷ 0 ∷ []) ≡ true → rectOf s p width units ≡ no 1
-reach-rect-1 s p width units h = rect-entry s p width units 0 (entry-1 s p 0 width units false h)
+-- 16,777,217 bytes
+pub reach-rect-1 : rectOf tooMany 0 1 1 ≡ no 1
+reach-rect-1 = rect-entry tooMany 0 1 1 0 (entry-1 tooMany 0 0 1 1 false (over-limit 0))
 
 no-rect : (width units : ℕ) → badPicture width units ≡ true → rectOf [] 0 width units ≡ no 11
 no-rect width units h = rect-entry [] 0 width units 10 (entry-11 [] 0 0 width units false (start [] (lit≤ tt)) (lit≤ tt) (rw h))
@@ -150,8 +162,16 @@ rect-at-0 : (s : List ℕ) (width units : ℕ) → length s ≤ most → badPict
 rect-at-0 s width units h b = rect-fields s 0 width units (entry-passes s 0 0 width units false (start s h) (lit≤ tt) b refl)
 
 -- place 1 of no bytes; each cause of 11; no bytes; 32 zeros and a one; rectangle 1 to 0; rectangle 0 to 2 in a picture of 1; rectangle 0 to 1
-pub reach-rect : (rectOf [] 1 1 1 ≡ no 2) × (rectOf [] 0 0 1 ≡ no 11) × (rectOf [] 0 1 0 ≡ no 11) × (rectOf [] 0 2 3 ≡ no 11) × (rectOf [] 0 1 36865 ≡ no 11)
-    × (rectOf [] 0 1 1 ≡ no 4) × (rectOf (0 ∷ 0 ∷ 0 ∷ 0 ∷ 0x80 ∷ []) 0 1 1 ≡ no 5) × (rectOf (0x50 ∷ []) 0 1 1 ≡ no 14) × (rectOf (0xB0 ∷ []) 0 1 1 ≡ no 15)
+pub reach-rect :
+    (rectOf [] 1 1 1 ≡ no 2)
+    × (rectOf [] 0 0 1 ≡ no 11)
+    × (rectOf [] 0 1 0 ≡ no 11)
+    × (rectOf [] 0 2 3 ≡ no 11)
+    × (rectOf [] 0 1 36865 ≡ no 11)
+    × (rectOf [] 0 1 1 ≡ no 4)
+    × (rectOf (0 ∷ 0 ∷ 0 ∷ 0 ∷ 0x80 ∷ []) 0 1 1 ≡ no 5)
+    × (rectOf (0x50 ∷ []) 0 1 1 ≡ no 14)
+    × (rectOf (0xB0 ∷ []) 0 1 1 ≡ no 15)
     × (rectOf (0xA0 ∷ []) 0 1 1 ≡ got (record { «top_left» = 0; «bottom_right» = 1 }) 4)
 unfolding badPicture rectangle bottomRightOk
 reach-rect = (
@@ -169,18 +189,20 @@ reach-rect = (
 
 -- ---- read_num_ref_idx
 
--- 1 by a law; place 1 of no bytes; no bytes; 32 zeros and a one; 32; 31
-pub reach-idx-1 : (s : List ℕ) (p : ℕ) → most < length s → numRefIdx s p ≡ no 1
-unfolding ueBelow
-reach-idx-1 s p h = let e : readUe s p ≡ no 1 = ue-refuse (ueEntry (long h)) in simp e
-
 past-end : readUe [] 1 ≡ no 2
 past-end = ue-refuse (ueEntry (past (lit≤ tt) (lit< tt)))
 
-pub reach-idx : (numRefIdx [] 1 ≡ no 2) × (numRefIdx [] 0 ≡ no 4) × (numRefIdx (0 ∷ 0 ∷ 0 ∷ 0 ∷ 0x80 ∷ []) 0 ≡ no 5) × (numRefIdx (0x04 ∷ 0x20 ∷ []) 0 ≡ no 18)
+-- 16,777,217 bytes; place 1 of no bytes; no bytes; 32 zeros and a one; 32; 31
+pub reach-idx :
+    (numRefIdx tooMany 0 ≡ no 1)
+    × (numRefIdx [] 1 ≡ no 2)
+    × (numRefIdx [] 0 ≡ no 4)
+    × (numRefIdx (0 ∷ 0 ∷ 0 ∷ 0 ∷ 0x80 ∷ []) 0 ≡ no 5)
+    × (numRefIdx (0x04 ∷ 0x20 ∷ []) 0 ≡ no 18)
     × (numRefIdx (0x04 ∷ 0x00 ∷ []) 0 ≡ got 31 11)
 unfolding ueBelow
 reach-idx = (
+  simp (number-1 .2),
   simp past-end,
   simp no-ue,
   simp many-zeros,

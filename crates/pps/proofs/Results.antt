@@ -11,15 +11,15 @@ use Rattle.bits.specs.Reading.{Ans, got, no, andThen, readerAt, readUe, readBit
 use Rattle.bits.proofs.Entry.{refused}
 use Rattle.bits.proofs.Reading.{skip-took, skip-refused}
 use Rattle.bits.specs.declared.BitReader.{BitReader}
-use Rattle.pps.specs.declared.Geometry.{Geometry}
 use Rattle.pps.specs.declared.SliceRect.{SliceRect}
 use Rattle.pps.specs.declared.SliceGroupChangeType.{SliceGroupChangeType}
 use Rattle.pps.specs.declared.SliceGroupRead.{SliceGroupRead}
 use Rattle.pps.specs.declared.SliceGroup.the-variants.{Interleaved, Dispersed, ForegroundAndLeftover, Changing, ExplicitAssignment}
-use Rattle.pps.specs.Rule.{badGroupCount, ueBelow, row, rectangle, idBits, groupId, Fields, interleaved, dispersed, foreground, changing, runLengths, rectangles, change, groupIds, byType, sliceGroups}
+use Rattle.pps.specs.Rule.{badGroupCount, ueBelow, row, rectangle, idBits, groupId, Fields, interleaved, dispersed, foreground}
+use Rattle.pps.specs.Rule.{changing, runLengths, rectangles, change, groupIds, byType, sliceGroups}
 use Rattle.pps.specs.Step.{RowSo, GoodIds, IdsFit, IdsPut}
 use Rattle.desk.specs.Room.{written}
-use Rattle.pps.specs.Answer.{entryFor, roomed, groupsOf, idsGiven, noRuns, noRects, changeType, whole, refusal, resultOf, GroupsGiven, ReadsGroups}
+use Rattle.pps.specs.Answer.{entryFor, roomed, groupsOf, idsGiven, noRuns, noRects, changeType, whole, refusal, resultOf, GroupsGiven}
 use Rattle.pps.proofs.Rows.{row-stops, row-read, row-stands, row-length}
 use Rattle.pps.proofs.Ids.{ids-there, ids-short}
 use Rattle.pps.proofs.Below.{IdsKnown, ids-known}
@@ -49,7 +49,8 @@ module _ (from : BitReader) (n width size : ℕ) (s : List ℕ) (p : ℕ) (r : S
   unfolding rectangles
   rects-end xs so h e =
       rw (row-read (rectangle width size) s n p noRects i xs at so h)
-      (e ∙ ap (λ (y : List SliceRect). whole (readerAt at) ForegroundAndLeftover n noRuns y 0) (row-stands (rectangle width size) s n p noRects i xs at so h))
+      (e ∙ ap (λ (y : List SliceRect). whole (readerAt at) ForegroundAndLeftover n noRuns y 0)
+      (row-stands (rectangle width size) s n p noRects i xs at so h))
 
 -- ---- a change
 
@@ -100,7 +101,7 @@ module _ (from : BitReader) (n units : ℕ) (s : List ℕ) (p : ℕ) (ids : List
 
     module _ (v : Unit) (e : ℕ) (there : skipped s q ((m + 1) * b) ≡ got v e) where
       all-there : q + (m + 1) * b ≤ size s
-      all-there = let t = skip-took s q ((m + 1) * b) v e there in let w = t .within in omega (arith, t .next)
+      all-there = let t = skip-took s q ((m + 1) * b) v e there in let w = t .within in omega (arith, t .stops)
 
       pub ids-fit : m + 1 ≤ length ids → IdsFit s q (m + 1) b ids
       ids-fit h = let w = known .narrow in record { entered = known .entered; bits = all-there; narrow = omega arith; room = h }
@@ -113,7 +114,8 @@ module _ (from : BitReader) (n units : ℕ) (s : List ℕ) (p : ℕ) (ids : List
           go (got vs e) f =
               let many = row-length (groupId n) (m + 1) s q vs e f in
               rw (first, f, lt-ltb (length ids) (length vs) (omega arith)) (record { answers = er; memory = refl })
-          go (no k) f = absurd (ids-there (idBits n) narrow (m + 1) s q k (known .entered) (subst (λ (w : ℕ). q + (m + 1) * w ≤ size s) eb all-there) f)
+          go (no k) f =
+              absurd (ids-there (idBits n) narrow (m + 1) s q k (known .entered) (subst (λ (w : ℕ). q + (m + 1) * w ≤ size s) eb all-there) f)
 
     pub ids-end : (ids′ : List ℕ) (e : ℕ) → IdsPut s q (m + 1) b ids ids′ e → m + 1 ≤ length ids
         → r ≡ whole (readerAt e) (ExplicitAssignment m) n noRuns noRects (m + 1) → Ids ids′
@@ -133,75 +135,77 @@ unfolding written
 no-ids from n ids r (got f q) none er = rw (none, le-ltb (length ids) 0 (omega arith)) (record { answers = er; memory = rw none })
 no-ids from n ids r (no k) none er = record { answers = er; memory = refl }
 
-module _ (s : List ℕ) (from : BitReader) (n : ℕ) (g : Geometry) (ids : List ℕ) (r : SliceGroupRead) where
-  abbrev w : ℕ
-  w = g .«pic_width_in_mbs»
-
-  abbrev z : ℕ
-  z = g .«pic_size_in_map_units»
-
+module _ (s : List ℕ) (from : BitReader) (n w z : ℕ) (ids : List ℕ) (r : SliceGroupRead) where
   abbrev p : ℕ
   p = from .at .0
 
-  module _ (bad : Bool) (count : bad ≡ badGroupCount n) (k₀ : ℕ) (entry : k₀ ≡ entryFor s p (length ids) w z bad) where
-    pub read-entry : (k₀ ≡ 0 → ⊥) → r ≡ refusal from k₀ → ReadsGroups s from n g ids r ids
-    unfolding groupsOf written
-    read-entry h er =
-        rw (← count, sym entry, sym (refused no k₀ k₀ refl (roomed (length ids) (sliceGroups n w z s p)) h)) (record { answers = er; memory = refl })
+  abbrev Given : List ℕ → Type 0
+  Given ids′ = GroupsGiven from n (groupsOf s p n w z (length ids)) ids r ids′
 
-    module _ (pass : k₀ ≡ 0) where
-      pub read-stop : (k j : ℕ) → readUe s p ≡ no k → j ≡ k → r ≡ refusal from j → ReadsGroups s from n g ids r ids
-      unfolding groupsOf sliceGroups written
-      read-stop k j e ej er = rw (← count, sym entry ∙ pass, e) (record { answers = rw (er, ej); memory = refl })
+  pub read-entry : (k : ℕ) → k ≡ entryFor s p (length ids) w z (badGroupCount n) → (k ≡ 0 → ⊥) → r ≡ refusal from k → Given ids
+  unfolding groupsOf written
+  read-entry k e h er = rw (← e, sym (refused no k k refl (roomed (length ids) (sliceGroups n w z s p)) h)) (record { answers = er; memory = refl })
 
-      module _ (t q : ℕ) (first : readUe s p ≡ got t q) where
-        -- the answer is that of the type's fields
-        by-type : (x : Ans Fields) (ids′ : List ℕ) → byType n w z t s q ≡ x → GroupsGiven from n (roomed (length ids) x) ids r ids′ → ReadsGroups s from n g ids r ids′
-        unfolding groupsOf sliceGroups
-        by-type x ids′ e given = rw (← count, sym entry ∙ pass, first, e) given
+  module _ (pass : entryFor s p (length ids) w z (badGroupCount n) ≡ 0) where
+    pub read-stop : (k j : ℕ) → readUe s p ≡ no k → j ≡ k → r ≡ refusal from j → Given ids
+    unfolding groupsOf sliceGroups written
+    read-stop k j e ej er = rw (pass, e) (record { answers = rw (er, ej); memory = refl })
 
-        pub type-0 : t ≡ 0 → r ≡ resultOf from n (runLengths n z s q) → ReadsGroups s from n g ids r ids
-        unfolding byType runLengths
-        type-0 e er = by-type (runLengths n z s q) ids (rw e) (no-ids from n ids r (runLengths n z s q) (go (row (ueBelow z badRunLength) (n + 1) s q)) er)
-          where
-            go : (y : Ans (List ℕ)) → idsGiven (andThen y (λ runs q. got (interleaved runs) q)) ≡ []
-            go (got runs q) = refl
-            go (no k) = refl
+    module _ (t q : ℕ) (first : readUe s p ≡ got t q) where
+      -- the answer is that of the type's fields
+      by-type : (x : Ans Fields) (ids′ : List ℕ) → byType n w z t s q ≡ x → GroupsGiven from n (roomed (length ids) x) ids r ids′ → Given ids′
+      unfolding groupsOf sliceGroups
+      by-type x ids′ e given = rw (pass, first, e) given
 
-        pub type-1 : t ≡ 1 → r ≡ whole (readerAt q) Dispersed n noRuns noRects 0 → ReadsGroups s from n g ids r ids
-        unfolding byType
-        type-1 e er = by-type (got dispersed q) ids (rw e) (no-ids from n ids r (got dispersed q) refl er)
+      pub type-0 : t ≡ 0 → r ≡ resultOf from n (runLengths n z s q) → Given ids
+      unfolding byType runLengths
+      type-0 e er =
+          by-type (runLengths n z s q) ids (rw e) (no-ids from n ids r (runLengths n z s q) (go (row (ueBelow z badRunLength) (n + 1) s q)) er)
+        where
+          go : (y : Ans (List ℕ)) → idsGiven (andThen y (λ runs q. got (interleaved runs) q)) ≡ []
+          go (got runs q) = refl
+          go (no k) = refl
 
-        pub type-2 : t ≡ 2 → r ≡ resultOf from n (rectangles n w z s q) → ReadsGroups s from n g ids r ids
-        unfolding byType rectangles
-        type-2 e er = by-type (rectangles n w z s q) ids (rw e) (no-ids from n ids r (rectangles n w z s q) (go (row (rectangle w z) n s q)) er)
-          where
-            go : (y : Ans (List SliceRect)) → idsGiven (andThen y (λ rects q. got (foreground rects) q)) ≡ []
-            go (got rects q) = refl
-            go (no k) = refl
+      pub type-1 : t ≡ 1 → r ≡ whole (readerAt q) Dispersed n noRuns noRects 0 → Given ids
+      unfolding byType
+      type-1 e er = by-type (got dispersed q) ids (rw e) (no-ids from n ids r (got dispersed q) refl er)
 
-        pub type-3 : 2 < t → t < 6 → r ≡ resultOf from n (change t z s q) → ReadsGroups s from n g ids r ids
-        unfolding byType change
-        type-3 l h er =
-            by-type (change t z s q) ids
-            (simp (ne-eqb t 0 (λ e. omega arith), ne-eqb t 1 (λ e. omega arith), ne-eqb t 2 (λ e. omega arith), le-leb t 5 (omega arith)))
-            (no-ids from n ids r (change t z s q) (go (readBit s q)) er)
-          where
-            go2 : (flag : Bool) (y : Ans ℕ) → idsGiven (andThen y (λ rate q. got (changing t flag rate) q)) ≡ []
-            go2 flag (got rate q) = refl
-            go2 flag (no k) = refl
+      pub type-2 : t ≡ 2 → r ≡ resultOf from n (rectangles n w z s q) → Given ids
+      unfolding byType rectangles
+      type-2 e er = by-type (rectangles n w z s q) ids (rw e) (no-ids from n ids r (rectangles n w z s q) (go (row (rectangle w z) n s q)) er)
+        where
+          go : (y : Ans (List SliceRect)) → idsGiven (andThen y (λ rects q. got (foreground rects) q)) ≡ []
+          go (got rects q) = refl
+          go (no k) = refl
 
-            go : (y : Ans Bool) → idsGiven (andThen y (λ flag q. andThen (ueBelow z badChangeRate s q) (λ rate q. got (changing t flag rate) q))) ≡ []
-            go (got flag q) = go2 flag (ueBelow z badChangeRate s q)
-            go (no k) = refl
+      pub type-3 : 2 < t → t < 6 → r ≡ resultOf from n (change t z s q) → Given ids
+      unfolding byType change
+      type-3 l h er =
+          by-type (change t z s q) ids
+          (simp (ne-eqb t 0 (λ e. omega arith), ne-eqb t 1 (λ e. omega arith), ne-eqb t 2 (λ e. omega arith), le-leb t 5 (omega arith)))
+          (no-ids from n ids r (change t z s q) (go (readBit s q)) er)
+        where
+          go2 : (flag : Bool) (y : Ans ℕ) → idsGiven (andThen y (λ rate q. got (changing t flag rate) q)) ≡ []
+          go2 flag (got rate q) = refl
+          go2 flag (no k) = refl
 
-        pub type-6 : (ids′ : List ℕ) → t ≡ 6 → GroupsGiven from n (roomed (length ids) (groupIds n z s q)) ids r ids′ → ReadsGroups s from n g ids r ids′
-        unfolding byType
-        type-6 ids′ e given = by-type (groupIds n z s q) ids′ (rw e) given
+          go : (y : Ans Bool) → idsGiven (andThen y (λ flag q. andThen (ueBelow z badChangeRate s q) (λ rate q. got (changing t flag rate) q))) ≡ []
+          go (got flag q) = go2 flag (ueBelow z badChangeRate s q)
+          go (no k) = refl
 
-        pub type-rest : 6 ≤ t → (t ≡ 6 → ⊥) → r ≡ refusal from 12 → ReadsGroups s from n g ids r ids
-        unfolding byType
-        type-rest l six er =
-            by-type (no 12) ids
-            (simp (ne-eqb t 0 (λ e. omega arith), ne-eqb t 1 (λ e. omega arith), ne-eqb t 2 (λ e. omega arith), lt-leb t 5 (omega arith), ne-eqb t 6 six))
-            (no-ids from n ids r (no 12) refl er)
+      pub type-6 : (ids′ : List ℕ) → t ≡ 6 → GroupsGiven from n (roomed (length ids) (groupIds n z s q)) ids r ids′ → Given ids′
+      unfolding byType
+      type-6 ids′ e given = by-type (groupIds n z s q) ids′ (rw e) given
+
+      pub type-rest : 6 ≤ t → (t ≡ 6 → ⊥) → r ≡ refusal from 12 → Given ids
+      unfolding byType
+      type-rest l six er =
+          by-type (no 12) ids
+          (simp (
+            ne-eqb t 0 (λ e. omega arith),
+            ne-eqb t 1 (λ e. omega arith),
+            ne-eqb t 2 (λ e. omega arith),
+            lt-leb t 5 (omega arith),
+            ne-eqb t 6 six,
+          ))
+          (no-ids from n ids r (no 12) refl er)

@@ -20,12 +20,14 @@ before-more l a (got vs q) = ap (λ (xs : List _). got xs q) (sym (append-assoc 
 before-more l a (no k) = refl
 
 module _ {A : Type 0} (field : List ℕ → ℕ → Ans A) (s : List ℕ) (count p : ℕ) (xs₀ : List A) where
-  step : (i at : ℕ) → i < count → row field (count - i) s at ≡ andThen (field s at) (λ a q. andThen (row field (count - (i + 1)) s q) (λ rest r. got (a ∷ rest) r))
+  step : (i at : ℕ) → i < count
+      → row field (count - i) s at ≡ andThen (field s at) (λ a q. andThen (row field (count - (i + 1)) s q) (λ rest r. got (a ∷ rest) r))
   unfolding row
   step i at h = let e : count - i ≡ suc (count - (i + 1)) = omega arith in rw e
 
   pub row-first : count ≤ length xs₀ → RowSo field s count p xs₀ 0 xs₀ p
-  row-first h = record { room = h; within = omega arith; long = refl; left = let e : count - 0 ≡ count = omega arith in rw (e, before-none); rest = refl }
+  row-first h =
+      record { room = h; within = omega arith; long = refl; left = let e : count - 0 ≡ count = omega arith in rw (e, before-none); rest = refl }
 
   module _ (i : ℕ) (xs : List A) (at : ℕ) (so : RowSo field s count p xs₀ i xs at) where
     pub row-more : (a : A) (q : ℕ) → i < count → field s at ≡ got a q → RowSo field s count p xs₀ (i + 1) (set xs i a) q
@@ -37,7 +39,8 @@ module _ {A : Type 0} (field : List ℕ → ℕ → Ans A) (s : List ℕ) (count
           within = omega arith;
           long = simp length-set (so .long);
           left = so .left ∙ ap (before (take i xs)) one ∙ before-more (take i xs) a (row field (count - (i + 1)) s q)
-              ∙ ap (λ (l : List A). before l (row field (count - (i + 1)) s q)) (sym (ap (λ (n : ℕ). take n (set xs i a)) (add-one i) ∙ take-suc-set xs i a hr));
+              ∙ ap (λ (l : List A). before l (row field (count - (i + 1)) s q))
+              (sym (ap (λ (n : ℕ). take n (set xs i a)) (add-one i) ∙ take-suc-set xs i a hr));
           rest = drop-set-lt (i + 1) xs i a (omega arith) ∙ sym (drop-drop 1 i xs) ∙ ap (drop 1) (so .rest) ∙ drop-drop 1 i xs₀;
         }
 
@@ -58,7 +61,8 @@ module _ {A : Type 0} (field : List ℕ → ℕ → Ans A) (s : List ℕ) (count
         sym (take-append-drop i xs) ∙ ap (λ (l : List A). take i xs ++ l) (so .rest ∙ ap (λ (n : ℕ). drop n xs₀) (sym long))
 
 -- a row that is read has as many fields as it was to have
-pub row-length : {A : Type 0} (field : List ℕ → ℕ → Ans A) (count : ℕ) (s : List ℕ) (p : ℕ) (vs : List A) (q : ℕ) → row field count s p ≡ got vs q → length vs ≡ count
+pub row-length : {A : Type 0} (field : List ℕ → ℕ → Ans A) (count : ℕ) (s : List ℕ) (p : ℕ) (vs : List A) (q : ℕ) → row field count s p ≡ got vs q
+    → length vs ≡ count
 unfolding row
 row-length field zero s p vs q e = let f : vs ≡ [] = cc in rw f
 row-length {A} field (suc count) s p vs q e = go (field s p) e (row-length field count s)

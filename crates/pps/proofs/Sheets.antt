@@ -7,10 +7,11 @@ use borrow.Author.Tests.{le-ltb}
 use lib.Dec.{lit≤, lit<}
 use Rattle.desk.specs.Numbers.{most}
 use Rattle.bits.specs.Reading.{got, no}
+use Rattle.bits.proofs.Concrete.{bits-here, ue-here}
 use Rattle.pps.specs.declared.SliceRect.{SliceRect}
-use Rattle.pps.specs.Rule.{badPicture, badGroupCount, bottomRightOk, rectangle, ueBelow, row, foreground, explicit, rectangles, groupIds, byType, sliceGroups}
+use Rattle.pps.specs.Rule.{badPicture, badGroupCount, bottomRightOk, rectangle, ueBelow, row, foreground, explicit, rectangles}
+use Rattle.pps.specs.Rule.{groupIds, byType, sliceGroups}
 use Rattle.pps.specs.Answer.{groupsOf}
-use Rattle.pps.proofs.Concrete.{ue-here, bits-here}
 use Rattle.pps.proofs.Entry.{entry-passes}
 use Rattle.pps.proofs.Ids.{id-bits-is}
 

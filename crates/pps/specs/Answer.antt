@@ -1,5 +1,5 @@
--- WHAT EACH CALL ANSWERS, for everything that goes in, refusals included; and, for each call, the record that ties its result, and the lent memory as it
--- returns, to that answer.
+-- WHAT EACH CALL ANSWERS, for everything that goes in, refusals included; and, for each call, the contract that ties its result, and the lent
+-- memory as it returns, to that answer.
 use Prim.Native.Nat.{ℕ, zero, suc, _-_}
 use mathlib.Core.Path.{_≡_}
 use mathlib.Core.List.{List, [], _∷_}
@@ -19,7 +19,8 @@ use Rattle.pps.specs.declared.SliceGroup.{SliceGroup}
 use Rattle.pps.specs.declared.SliceGroup.the-variants.{Interleaved, Dispersed, ForegroundAndLeftover, Changing, ExplicitAssignment}
 use Rattle.pps.specs.declared.SliceGroups.{SliceGroups}
 use Rattle.pps.specs.declared.SliceGroupRead.{SliceGroupRead}
-use Rattle.pps.specs.Rule.{badPicture, badGroupCount, rectangle, Fields, interleaved, dispersed, foreground, changing, explicit, sliceGroups}
+use Rattle.pps.specs.Rule.{badPicture, badGroupCount, rectangle, Fields, interleaved, dispersed, foreground, changing, explicit}
+use Rattle.pps.specs.Rule.{rectangles, groupIds, sliceGroups}
 use Rattle.desk.specs.Room.{written}
 
 -- ---- the entry checks: 1, 2, 11
@@ -33,6 +34,10 @@ firstOf (suc a) b = suc a
 unfoldable pub entryFor : List ℕ → ℕ → ℕ → ℕ → ℕ → Bool → ℕ
 entryFor s p room width size badCount =
     firstOf (entryOf (length s ∷ room ∷ 0 ∷ []) (pastEnd s p)) (cond (badPicture width size || badCount) badGeometry done)
+
+-- of a call that is given a reader and a picture
+abbrev pub entryBy : List ℕ → BitReader → ℕ → Geometry → Bool → ℕ
+entryBy s from room g = entryFor s (from .at .0) room (g .«pic_width_in_mbs») (g .«pic_size_in_map_units»)
 
 -- ---- a rectangle
 
@@ -49,6 +54,10 @@ rectBack = backBy Value Refused
 
 abbrev pub ReadsRect : BitReader → Rect → Ans SliceRect → Type 0
 ReadsRect from r a = r ≡ rectBack from a
+
+-- the contract
+abbrev pub ReadsRectIn : List ℕ → BitReader → Geometry → Rect → Type 0
+ReadsRectIn s from g r = ReadsRect from r (rectOf s (from .at .0) (g .«pic_width_in_mbs») (g .«pic_size_in_map_units»))
 
 -- ---- slice groups
 
@@ -132,6 +141,14 @@ resultOf from n (no k) = refusal from k
 pub record GroupsGiven (from : BitReader) (n : ℕ) (a : Ans Fields) (ids : List ℕ) (r : SliceGroupRead) (ids′ : List ℕ) : Type 0 where
   pub answers : r ≡ resultOf from n a
   pub memory : ids′ ≡ written ids (idsGiven a)
+
+-- what the reader of the rectangles, and that of the ids, are to give
+abbrev pub ReadsRectangles : List ℕ → BitReader → BitReader → ℕ → Geometry → SliceGroupRead → Type 0
+ReadsRectangles s from next n g r =
+    r ≡ resultOf from n (rectangles n (g .«pic_width_in_mbs») (g .«pic_size_in_map_units») s (next .at .0))
+
+abbrev pub ReadsIds : List ℕ → BitReader → BitReader → ℕ → ℕ → List ℕ → SliceGroupRead → List ℕ → Type 0
+ReadsIds s from next n size ids r ids′ = GroupsGiven from n (roomed (length ids) (groupIds n size s (next .at .0))) ids r ids′
 
 -- the contract
 abbrev pub ReadsGroups : List ℕ → BitReader → ℕ → Geometry → List ℕ → SliceGroupRead → List ℕ → Type 0

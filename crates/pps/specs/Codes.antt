@@ -1,5 +1,5 @@
--- THE BITS OF SLICE GROUPS: the codes of their fields, one behind another, and which fields are in range. proofs/Codes.antt shows that a read gives exactly
--- those, and stops behind exactly those bits.
+-- THE BITS OF SLICE GROUPS: the codes of their fields, one behind another, and which fields are in range. proofs/Codes.antt shows that a read
+-- gives exactly those, and stops behind exactly those bits.
 use Prim.Native.Nat.{ℕ, _+_, _-_, _*_, _%_, _^_, _≤_, _<_}
 use mathlib.Core.Path.{_≡_}
 use mathlib.Core.List.{List, [], _∷_, _++_}

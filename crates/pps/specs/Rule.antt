@@ -1,6 +1,6 @@
--- THE RULE OF SLICE GROUPS: the slice-group part of the syntax table of Rec 7.3.2.2, as a chain of fields over the bit crate's answers, with the ranges of
--- 7.4.2.2 as document 01 keeps them. Each field is read from where the one before it stopped, or the whole read is refused by its number. Assumes nothing:
--- these are definitions.
+-- THE RULE OF SLICE GROUPS: the slice-group part of the syntax table of Rec 7.3.2.2, as a chain of fields over the bit crate's answers, with the
+-- ranges of 7.4.2.2 as document 01 keeps them. Each field is read from where the one before it stopped, or the whole read is refused by its
+-- number.
 use Prim.Native.Nat.{ℕ, zero, suc, _+_, _%_, _^_}
 use mathlib.Core.List.{List, [], _∷_}
 use mathlib.Core.Bool.{Bool, not, cond, _||_}

@@ -1,8 +1,6 @@
 // Type 6: ids in a lent buffer.
-ghost use lib.ListN.{length};
-ghost use Rattle.pps.specs.Rule.{groupIds};
 ghost use Rattle.pps.specs.Step.{IdsFit, IdsPut, GoodIds};
-ghost use Rattle.pps.specs.Answer.{GroupsGiven, roomed};
+ghost use Rattle.pps.specs.Answer.{ReadsIds};
 use super::SliceGroup;
 use super::SliceGroupRead;
 use super::answers::plain;
@@ -41,7 +39,7 @@ pub(crate) fn read_group_ids(
     ids: &mut [u8],
 ) -> SliceGroupRead
     requires { ⌜ GoodIds (now s) (next .at .0) «num_slice_groups_minus1» size ⌝ }
-    ensures { λ r. ⌜ GroupsGiven from «num_slice_groups_minus1» (roomed (length (now (ids .entry))) (groupIds «num_slice_groups_minus1» size (now (s .entry)) (next .at .0))) (now (ids .entry)) r (now (ids .exit)) ⌝ }
+    ensures { λ r. ⌜ ReadsIds (now (s .entry)) from next «num_slice_groups_minus1» size (now (ids .entry)) r (now (ids .exit)) ⌝ }
 {
     let first = fields::read_ue_below(s, next, size, desk::BAD_PIC_SIZE);
     let Bits::Value(pic_size_in_map_units_minus1, after) = first else {

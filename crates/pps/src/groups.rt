@@ -1,8 +1,8 @@
 // The slice-group part of the syntax table, Rec 7.3.2.2.
 ghost use mathlib.Core.Path.{_≡_};
 ghost use Prim.Native.Nat.{_≤_, _<_};
-ghost use Rattle.pps.specs.Rule.{runLengths, rectangles, change};
-ghost use Rattle.pps.specs.Answer.{resultOf, ReadsGroups};
+ghost use Rattle.pps.specs.Rule.{runLengths, change};
+ghost use Rattle.pps.specs.Answer.{resultOf, ReadsRectangles, ReadsGroups};
 use super::Geometry;
 use super::Rect;
 use super::SliceGroup;
@@ -62,7 +62,7 @@ fn read_rectangles(
     geometry: Geometry,
 ) -> SliceGroupRead
     requires { ⌜ («num_slice_groups_minus1» ≤ 7) × (0 < geometry .«pic_width_in_mbs») ⌝ }
-    ensures { λ r. ⌜ r ≡ resultOf from «num_slice_groups_minus1» (rectangles «num_slice_groups_minus1» (geometry .«pic_width_in_mbs») (geometry .«pic_size_in_map_units») (now (s .entry)) (next .at .0)) ⌝ }
+    ensures { λ r. ⌜ ReadsRectangles (now (s .entry)) from next «num_slice_groups_minus1» geometry r ⌝ }
 {
     let width = geometry.pic_width_in_mbs;
     let size = geometry.pic_size_in_map_units;

@@ -59,8 +59,8 @@ pub struct SliceGroups {
     pub rectangles: [SliceRect; 7],
 }
 
-// What a read of slice groups gives: 0, the reader behind the last field, the groups and the count of ids written; or a number of the table, the reader
-// as it came, groups that are all 0, and no ids.
+// What a read of slice groups gives: 0, the reader behind the last field, the groups and the count of ids written; or a number of the table, the
+// reader as it came, groups that are all 0, and no ids.
 pub struct SliceGroupRead {
     pub number: u8,
     pub reader: BitReader,

@@ -1,7 +1,7 @@
 // What every read of slice groups is given, and the entry checks that tell whether it describes a picture.
 ghost use mathlib.Core.Path.{_≡_};
 ghost use Rattle.pps.specs.Rule.{badPicture, badGroupCount};
-ghost use Rattle.pps.specs.Answer.{entryFor};
+ghost use Rattle.pps.specs.Answer.{entryBy};
 use super::Geometry;
 use bits::BitReader;
 
@@ -9,7 +9,7 @@ use bits::BitReader;
 const MOST_UNITS: u32 = 36_864;
 
 impl Geometry {
-    pub fn bad(self) -> bool
+    pub(crate) fn bad(self) -> bool
         ensures { λ r. ⌜ r ≡ badPicture (self .«pic_width_in_mbs») (self .«pic_size_in_map_units») ⌝ }
     {
         let width = self.pic_width_in_mbs;
@@ -44,7 +44,7 @@ pub(crate) fn entry(
     geometry: Geometry,
     bad_count: bool,
 ) -> u8
-    ensures { λ r. ⌜ r ≡ entryFor (now (s .entry)) (from .at .0) ids (geometry .«pic_width_in_mbs») (geometry .«pic_size_in_map_units») «bad_count» ⌝ }
+    ensures { λ r. ⌜ r ≡ entryBy (now (s .entry)) from ids geometry «bad_count» ⌝ }
 {
     let number = desk::entry(s.len(), ids, 0, from.past_end(s));
     if number != 0 {

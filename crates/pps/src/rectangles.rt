@@ -2,7 +2,7 @@
 ghost use mathlib.Core.Path.{_≡_};
 ghost use Prim.Native.Nat.{_<_};
 ghost use Rattle.pps.specs.Rule.{bottomRightOk, rectangle};
-ghost use Rattle.pps.specs.Answer.{ReadsRect, rectOf, rectAnswer};
+ghost use Rattle.pps.specs.Answer.{ReadsRect, ReadsRectIn, rectAnswer};
 ghost use Rattle.bits.specs.Reading.{number};
 use super::Geometry;
 use super::Rect;
@@ -62,7 +62,7 @@ pub(crate) fn rectangle(s: &[u8], from: BitReader, width: u32, size: u32) -> Rec
 
 impl SliceRect {
     pub fn read(s: &[u8], from: BitReader, geometry: Geometry) -> Rect
-        ensures { λ r. ⌜ ReadsRect from r (rectOf (now (s .entry)) (from .at .0) (geometry .«pic_width_in_mbs») (geometry .«pic_size_in_map_units»)) ⌝ }
+        ensures { λ r. ⌜ ReadsRectIn (now (s .entry)) from geometry r ⌝ }
     {
         let number = picture::entry(s, from, 0, geometry, false);
         if number != 0 {

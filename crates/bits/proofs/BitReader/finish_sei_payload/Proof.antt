@@ -50,7 +50,11 @@ returns-4 c =
     let e = c .before .after-last in
     let g = ok (c .before .before .before) in
     passed (λ (n : ℕ). n) _ _ (c .before .before .before .before .entry .ensures) (c .before .before .before .if1 .left)
-    (simp (ne-eqb _ _ (c .before .before .if2 .left), finish-not-here (now (a .s)) (a .self .at .0) (e .result .0) (e .ensures) (g .within) (c .if3 .left)))
+    (simp (
+      ne-eqb _ _ (c .before .before .if2 .left),
+      finish-not-here (now (a .s)) (a .self .at .0) (e .result .0) (e .ensures) (g .within)
+          (c .if3 .left),
+    ))
 
 pub finish-sei-payload-spec : {M : Type 1} → statement M
 finish-sei-payload-spec =

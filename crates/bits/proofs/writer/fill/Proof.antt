@@ -26,7 +26,8 @@ long : (c : tie.At-loop Inv-loop μ-loop) → length (c .loop .out) ≡ length (
 long c =
     let a = c .before .args in
     let l = c .loop in
-    ap length (l .inv .1) ∙ length-paste (now (a .out)) (a .at .0) (bytesOf (a .k) (a .y)) (l .j) (omega arith) (omega (arith, length-bytes (a .k) (a .y)))
+    ap length (l .inv .1)
+    ∙ length-paste (now (a .out)) (a .at .0) (bytesOf (a .k) (a .y)) (l .j) (omega arith) (omega (arith, length-bytes (a .k) (a .y)))
 
 sub-out : tie.Need-sub-out Inv-loop μ-loop
 sub-out c = omega arith
@@ -59,7 +60,8 @@ loop-again : tie.Need-loop-again Inv-loop μ-loop
 loop-again c = let a = c .before .before .args in let l = c .before .loop in
     let s = bytesOf (a .k) (a .y) in (
       omega arith,
-      ap₂ (λ (o : List ℕ) (b : ℕ). set o (a .at .0 + l .j) b) (l .inv .1) (and-mask (a .y / 2 ^ (8 * (a .k - 1 - l .j))) 8 ∙ sym (bytes-at (a .k) (a .y) (l .j) (omega arith)))
+      ap₂ (λ (o : List ℕ) (b : ℕ). set o (a .at .0 + l .j) b) (l .inv .1)
+          (and-mask (a .y / 2 ^ (8 * (a .k - 1 - l .j))) 8 ∙ sym (bytes-at (a .k) (a .y) (l .j) (omega arith)))
           ∙ paste-suc (now (a .out)) (a .at .0) s (l .j) 0 (omega arith) (omega (arith, length-bytes (a .k) (a .y)))
           ∙ ap (paste (now (a .out)) (a .at .0) s) (sym (add-one (l .j))),
     )

@@ -1,5 +1,4 @@
 use mathlib.Core.Path.{refl, sym, ap, _∙_}
-use mathlib.Core.Bool.{false}
 use Rattle.bits.specs.Reading.{no}
 use Rattle.bits.proofs.Entry.{refused, passed as checked}
 use Rattle.pps.specs.Answer.{rectOf, rectBack}
@@ -16,8 +15,7 @@ unfolding rectOf
 returns c = ap (rectBack _) (refused no _ _ (c .before .entry .ensures) _ (c .if1 .taken))
 
 rectangle-requires : tie.Need-rectangle-requires
-rectangle-requires c κs = let a = c .before .before .before .args in
-    passed (a .s .now) (a .from .at .0) 0 (a .geometry .«pic_width_in_mbs») (a .geometry .«pic_size_in_map_units») false (sym (c .before .entry .ensures) ∙ c .if1 .left) .wide
+rectangle-requires c κs = passed _ _ _ _ _ _ (sym (c .before .entry .ensures) ∙ c .if1 .left) .wide
 
 returns-2 : tie.Need-returns-2
 unfolding rectOf

@@ -14,7 +14,8 @@ given-requires c κs = search needs
 
 returns : tie.Need-returns
 returns c = let a = c .before .before .args in
-    c .given .ensures ∙ ap (λ (l : List SliceRect). whole (a .at) (a .group) (a .num-slice-groups-minus1) noRuns l (a .ids)) (c .before .no-rectangles .ensures)
+    c .given .ensures
+    ∙ ap (λ (l : List SliceRect). whole (a .at) (a .group) (a .num-slice-groups-minus1) noRuns l (a .ids)) (c .before .no-rectangles .ensures)
 
 pub plain-spec : {M : Type 1} → statement M
 plain-spec = tie.close (tie.spec no-rectangles-requires given-requires returns)

@@ -18,7 +18,7 @@ abbrev μ-loop : tie.MeasureT-loop
 μ-loop s count width ids₀ at₀ i₀ ids at i = count - i
 
 loop-holds : tie.Need-loop-holds Inv-loop μ-loop
-loop-holds c = let a = c .before .before .args in row-first (λ s p. readBits s p (a .width)) (a .s .now) (a .count) (a .from .at .0) (a .ids .now) (c .before .before .pre .room)
+loop-holds c = row-first _ _ _ _ _ (c .before .before .pre .room)
 
 read-requires : tie.Need-read-requires Inv-loop μ-loop
 read-requires c κs = search needs
@@ -33,22 +33,20 @@ same-length : tie.Need-same-length Inv-loop μ-loop
 same-length c = c .before .before .before .before .loop .inv .long
 
 returns : tie.Need-returns Inv-loop μ-loop
-returns c = let a = c .before .before .before .before .before .before .before .args in
-    let l = c .before .before .before .before .loop in
-    let told = c .enum-told .given in
+returns c =
     let fit = c .before .before .before .before .before .before .before .pre in
     let narrow = fit .narrow in
-    absurd (ids-there (a .width) (omega arith) (a .count) (a .s .now) (a .from .at .0) (told .0 .0) (fit .entered) (fit .bits)
-    (row-stops (λ s p. readBits s p (a .width)) (a .s .now) (a .count) (a .from .at .0) (a .ids .now) (l .i) (l .ids) (l .at .at .0) (l .inv) (told .0 .0)
-    (c .before .before .before .loop-test .taken) (read-is _ _ (c .before .before .read .ensures) (told .1))))
+    absurd (ids-there _ (omega arith) _ _ _ _ (fit .entered) (fit .bits)
+    (row-stops _ _ _ _ _ _ _ _ (c .before .before .before .before .loop .inv) _ (c .before .before .before .loop-test .taken)
+    (read-is _ _ (c .before .before .read .ensures) (c .enum-told .given .1))))
 
 cast-ids : tie.Need-cast-ids Inv-loop μ-loop
-cast-ids c = let a = c .before .before .before .before .before .before .before .before .args in
-    let known = c .before .field .given in
-    let narrow = c .before .before .before .before .before .before .before .before .pre .narrow in
-    let small = bits-codes (a .width) (omega arith) .took (a .s .now) (c .before .before .before .before .before .loop .at .at .0) (known .0 .0) (known .0 .1 .0 .at .0)
-    (read-is _ _ (c .before .before .before .read .ensures) (known .1)) .ok in
-    omega (arith, pow-mono {i = a .width} {j = 8} narrow)
+cast-ids c =
+    let d = c .before .before .before .before .before .before .before .before in
+    let narrow = d .pre .narrow in
+    let small = bits-codes (d .args .width) (omega arith) .took _ _ _ _
+    (read-is _ _ (c .before .before .before .read .ensures) (c .before .field .given .1)) .ok in
+    omega (arith, pow-mono {i = d .args .width} {j = 8} narrow)
 
 slice-write-ids : tie.Need-slice-write-ids Inv-loop μ-loop
 slice-write-ids c = let so = c .before .before .before .before .before .loop .inv in omega (arith, so .room, so .long)
@@ -60,19 +58,15 @@ loop-less : tie.Need-loop-less Inv-loop μ-loop
 loop-less c = search needs
 
 loop-again : tie.Need-loop-again Inv-loop μ-loop
-loop-again c = let a = c .before .before .before .before .before .before .before .before .args in
-    let l = c .before .before .before .before .before .loop in
-    let known = c .before .field .given in
-    row-more (λ s p. readBits s p (a .width)) (a .s .now) (a .count) (a .from .at .0) (a .ids .now) (l .i) (l .ids) (l .at .at .0) (l .inv)
-    (known .0 .0) (known .0 .1 .0 .at .0) (c .before .before .before .before .loop-test .taken) (read-is _ _ (c .before .before .before .read .ensures) (known .1))
+loop-again c =
+    row-more _ _ _ _ _ _ _ _ (c .before .before .before .before .before .loop .inv) _ _ (c .before .before .before .before .loop-test .taken)
+    (read-is _ _ (c .before .before .before .read .ensures) (c .before .field .given .1))
 
 same-length-2 : tie.Need-same-length-2 Inv-loop μ-loop
 same-length-2 c = c .before .loop .inv .long
 
 returns-2 : tie.Need-returns-2 Inv-loop μ-loop
-returns-2 c = let a = c .before .before .before .before .args in
-    let l = c .before .loop in
-    ids-put (a .width) (a .count) (a .s .now) (a .from .at .0) (a .ids .now) (l .i) (l .ids) (l .at .at .0) (l .inv) (c .loop-test .left)
+returns-2 c = ids-put _ _ _ _ _ _ _ _ (c .before .loop .inv) (c .loop-test .left)
 
 pub put-ids-spec : {M : Type 1} → statement M
 put-ids-spec =

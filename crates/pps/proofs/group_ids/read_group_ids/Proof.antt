@@ -27,26 +27,28 @@ refused-requires : tie.Need-refused-requires
 refused-requires c κs = search needs
 
 returns : tie.Need-returns
-returns c = let a = c .before .before .before .before .before .before .before .args in
-    let told = c .before .before .enum-told .given in
-    ids-stop (a .from) (a .num-slice-groups-minus1) (a .size) (a .s .now) (a .next .at .0) (a .ids .now) (c .refused .result) (told .0 .0) (c .before .number .result)
-    (read-is _ _ (c .before .before .before .before .read-ue-below .ensures) (told .1)) (c .before .number .ensures ∙ ap (λ (x : Bits). number (answer x)) (told .1)) (c .refused .ensures)
+returns c =
+    let told = c .before .before .enum-told .given .1 in
+    ids-stop _ _ _ _ _ _ _ _ _ (read-is _ _ (c .before .before .before .before .read-ue-below .ensures) told)
+    (c .before .number .ensures ∙ ap (λ (x : Bits). number (answer x)) told) (c .refused .ensures)
 
 id-bits-requires : tie.Need-id-bits-requires
 id-bits-requires c κs = search needs
 
 add-bits : tie.Need-add-bits
-add-bits c = let a = c .before .before .before .before .before .before .before .args in
-    let first = c .before .before .first .given in
-    let known = ids-known (a .s .now) (a .next .at .0) (a .num-slice-groups-minus1) (a .size) 17 (first .0 .0) (first .0 .1 .0 .at .0) (c .id-bits .result) (c .before .before .before .before .before .before .before .pre)
-    (read-is _ _ (c .before .before .before .before .read-ue-below .ensures) (first .1)) (c .id-bits .ensures) in
+add-bits c =
+    let f = c .before .before in
+    let known = ids-known _ _ _ _ _ _ _ _ (f .before .before .before .before .before .pre)
+    (read-is _ _ (f .before .before .read-ue-below .ensures) (f .first .given .1))
+    (c .id-bits .ensures) in
     let few = known .count in omega arith
 
 mul-bits : tie.Need-mul-bits
-mul-bits c = let a = c .before .before .before .before .before .before .before .args in
-    let first = c .before .before .first .given in
-    let known = ids-known (a .s .now) (a .next .at .0) (a .num-slice-groups-minus1) (a .size) 17 (first .0 .0) (first .0 .1 .0 .at .0) (c .id-bits .result) (c .before .before .before .before .before .before .before .pre)
-    (read-is _ _ (c .before .before .before .before .read-ue-below .ensures) (first .1)) (c .id-bits .ensures) in
+mul-bits c =
+    let f = c .before .before in
+    let known = ids-known _ _ _ _ _ _ _ _ (f .before .before .before .before .before .pre)
+    (read-is _ _ (f .before .before .read-ue-below .ensures) (f .first .given .1))
+    (c .id-bits .ensures) in
     let few = known .bits in omega arith
 
 skip-requires : tie.Need-skip-requires
@@ -65,12 +67,13 @@ refused-requires-2 : tie.Need-refused-requires-2
 refused-requires-2 c κs = search needs
 
 returns-2 : tie.Need-returns-2
-returns-2 c = let a = c .before .before .before .before .before .before .before .before .before .before .before .before .args in
-    let first = c .before .before .before .before .before .before .before .first .given in
-    let told = c .before .before .enum-told3 .given in
-    ids-few (a .from) (a .num-slice-groups-minus1) (a .size) (a .s .now) (a .next .at .0) (a .ids .now) (c .refused2 .result) (c .before .before .before .before .before .before .before .before .before .before .before .before .pre) (first .0 .0) (first .0 .1 .0 .at .0)
-    (read-is _ _ (c .before .before .before .before .before .before .before .before .before .read-ue-below .ensures) (first .1)) (c .before .before .before .before .before .id-bits .result) (c .before .before .before .before .before .id-bits .ensures) (told .0 .0) (c .before .number2 .result)
-    (skip-is _ _ (c .before .before .before .before .skip .ensures) (told .1)) (c .before .number2 .ensures ∙ ap (λ (x : Moved). number (movedAnswer x)) (told .1)) (c .refused2 .ensures)
+returns-2 c =
+    let i = c .before .before .before .before .before in
+    let f = i .before .before in
+    ids-few _ _ _ _ _ _ _ (f .before .before .before .before .before .pre) _ _
+    (read-is _ _ (f .before .before .read-ue-below .ensures) (f .first .given .1))
+    _ (i .id-bits .ensures) _ _ (skip-is _ _ (c .before .before .before .before .skip .ensures) (c .before .before .enum-told3 .given .1))
+    (c .before .number2 .ensures ∙ ap (λ (x : Moved). number (movedAnswer x)) (c .before .before .enum-told3 .given .1)) (c .refused2 .ensures)
 
 cast-count : tie.Need-cast-count
 cast-count c = search needs
@@ -82,18 +85,22 @@ refused-requires-3 : tie.Need-refused-requires-3
 refused-requires-3 c κs = search needs
 
 returns-3 : tie.Need-returns-3
-returns-3 c = let a = c .before .before .before .before .before .before .before .before .before .before .before .before .args in
-    let first = c .before .before .before .before .before .before .before .first .given in
-    ids-no-room (a .from) (a .num-slice-groups-minus1) (a .size) (a .s .now) (a .next .at .0) (a .ids .now) (c .refused3 .result) (c .before .before .before .before .before .before .before .before .before .before .before .before .pre) (first .0 .0) (first .0 .1 .0 .at .0)
-    (read-is _ _ (c .before .before .before .before .before .before .before .before .before .read-ue-below .ensures) (first .1)) (c .before .before .before .before .before .id-bits .result) (c .before .before .before .before .before .id-bits .ensures) tt (c .before .before .enum-told2 .given .0 .0 .at .0)
-    (skip-is _ _ (c .before .before .before .before .skip .ensures) (c .before .before .enum-told2 .given .1)) (c .before .if1 .taken) (c .refused3 .ensures)
+returns-3 c =
+    let i = c .before .before .before .before .before in
+    let f = i .before .before in
+    ids-no-room _ _ _ _ _ _ _ (f .before .before .before .before .before .pre) _ _
+    (read-is _ _ (f .before .before .read-ue-below .ensures) (f .first .given .1))
+    _ (i .id-bits .ensures) _ _ (skip-is _ _ (c .before .before .before .before .skip .ensures) (c .before .before .enum-told2 .given .1))
+    (c .before .if1 .taken) (c .refused3 .ensures)
 
 put-ids-requires : tie.Need-put-ids-requires
-put-ids-requires c κs = let a = c .before .before .before .before .before .before .before .before .before .before .before .before .args in
-    let first = c .before .before .before .before .before .before .before .first .given in
-    ids-fit (a .from) (a .num-slice-groups-minus1) (a .size) (a .s .now) (a .next .at .0) (a .ids .now) (refusal (a .from) 0) (c .before .before .before .before .before .before .before .before .before .before .before .before .pre) (first .0 .0) (first .0 .1 .0 .at .0)
-    (read-is _ _ (c .before .before .before .before .before .before .before .before .before .read-ue-below .ensures) (first .1)) (c .before .before .before .before .before .id-bits .result) (c .before .before .before .before .before .id-bits .ensures) tt (c .before .before .enum-told2 .given .0 .0 .at .0)
-    (skip-is _ _ (c .before .before .before .before .skip .ensures) (c .before .before .enum-told2 .given .1)) (c .before .if1 .left)
+put-ids-requires c κs =
+    let i = c .before .before .before .before .before in
+    let f = i .before .before in
+    ids-fit (f .before .before .before .before .before .args .from) _ _ _ _ _ (refusal (f .before .before .before .before .before .args .from) 0)
+    (f .before .before .before .before .before .pre) _ _ (read-is _ _ (f .before .before .read-ue-below .ensures) (f .first .given .1))
+    _ (i .id-bits .ensures) _ _ (skip-is _ _ (c .before .before .before .before .skip .ensures) (c .before .before .enum-told2 .given .1))
+    (c .before .if1 .left)
 
 plain-requires : tie.Need-plain-requires
 plain-requires c κs = search needs
@@ -102,11 +109,13 @@ same-length : tie.Need-same-length
 same-length c = search needs
 
 returns-4 : tie.Need-returns-4
-returns-4 c = let a = c .before .before .before .before .before .before .before .before .before .before .before .before .before .before .before .before .args in
-    let first = c .before .before .before .before .before .before .before .before .before .before .before .first .given in
-    ids-end (a .from) (a .num-slice-groups-minus1) (a .size) (a .s .now) (a .next .at .0) (a .ids .now) (c .plain .result) (c .before .before .before .before .before .before .before .before .before .before .before .before .before .before .before .before .pre) (first .0 .0) (first .0 .1 .0 .at .0)
-    (read-is _ _ (c .before .before .before .before .before .before .before .before .before .before .before .before .before .read-ue-below .ensures) (first .1)) (c .before .before .before .before .before .before .before .before .before .id-bits .result) (c .before .before .before .before .before .before .before .before .before .id-bits .ensures) (c .before .before .before .put-ids .last .1 .1 .1 .1 .0) (c .before .before .before .put-ids .result .at .0)
-    (c .before .before .before .put-ids .ensures) (c .before .before .before .before .before .if1 .left) (c .plain .ensures)
+returns-4 c =
+    let i = c .before .before .before .before .before .before .before .before .before in
+    let f = i .before .before in
+    ids-end _ _ _ _ _ _ _ (f .before .before .before .before .before .pre) _ _
+    (read-is _ _ (f .before .before .read-ue-below .ensures) (f .first .given .1))
+    _ (i .id-bits .ensures) _ _ (c .before .before .before .put-ids .ensures)
+    (c .before .before .before .before .before .if1 .left) (c .plain .ensures)
 
 pub read-group-ids-spec : {M : Type 1} → statement M
 read-group-ids-spec =

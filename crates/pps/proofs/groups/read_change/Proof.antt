@@ -24,10 +24,10 @@ refused-requires : tie.Need-refused-requires
 refused-requires c κs = search needs
 
 returns : tie.Need-returns
-returns c = let a = c .before .before .before .before .before .before .args in
-    let told = c .before .before .enum-told .given in
-    flag-stop (a .from) (a .num-slice-groups-minus1) (a .map-type) (a .size) (a .s .now) (a .next .at .0) (c .refused .result) (told .0 .0) (c .before .number .result)
-    (bit-is _ _ (c .before .before .before .before .read-bit .ensures) (told .1)) (c .before .number .ensures ∙ ap (λ (x : Bit). number (bitAnswer x)) (told .1)) (c .refused .ensures)
+returns c =
+    let told = c .before .before .enum-told .given .1 in
+    flag-stop _ _ _ _ _ _ _ _ _ (bit-is _ _ (c .before .before .before .before .read-bit .ensures) told)
+    (c .before .number .ensures ∙ ap (λ (x : Bit). number (bitAnswer x)) told) (c .refused .ensures)
 
 read-ue-below-requires : tie.Need-read-ue-below-requires
 read-ue-below-requires c κs = search needs
@@ -45,12 +45,12 @@ refused-requires-2 : tie.Need-refused-requires-2
 refused-requires-2 c κs = search needs
 
 returns-2 : tie.Need-returns-2
-returns-2 c = let a = c .before .before .before .before .before .before .before .before .before .before .args in
-    let told = c .before .before .enum-told2 .given in
-    let dir = c .before .before .before .before .before .before .direction .given in
-    rate-stop (a .from) (a .num-slice-groups-minus1) (a .map-type) (a .size) (a .s .now) (a .next .at .0) (c .refused2 .result) (dir .0 .0) (dir .0 .1 .0 .at .0) (told .0 .0) (c .before .number2 .result)
-    (bit-is _ _ (c .before .before .before .before .before .before .before .before .read-bit .ensures) (dir .1)) (read-is _ _ (c .before .before .before .before .read-ue-below .ensures) (told .1))
-    (c .before .number2 .ensures ∙ ap (λ (x : Bits). number (answer x)) (told .1)) (c .refused2 .ensures)
+returns-2 c =
+    let told = c .before .before .enum-told2 .given .1 in
+    let d = c .before .before .before .before .before .before in
+    rate-stop _ _ _ _ _ _ _ _ _ _ _ (bit-is _ _ (d .before .before .read-bit .ensures) (d .direction .given .1))
+    (read-is _ _ (c .before .before .before .before .read-ue-below .ensures) told)
+    (c .before .number2 .ensures ∙ ap (λ (x : Bits). number (answer x)) told) (c .refused2 .ensures)
 
 from-id-requires : tie.Need-from-id-requires
 from-id-requires c κs = search needs
@@ -59,12 +59,11 @@ plain-requires : tie.Need-plain-requires
 plain-requires c κs = search needs
 
 returns-3 : tie.Need-returns-3
-returns-3 c = let a = c .before .before .before .before .before .before .before .before .before .before .before .args in
-    let dir = c .before .before .before .before .before .before .before .direction .given in
-    let rate = c .before .before .before .rate .given in
-    change-end (a .from) (a .num-slice-groups-minus1) (a .map-type) (a .size) (a .s .now) (a .next .at .0) (c .plain .result) (dir .0 .0) (dir .0 .1 .0 .at .0) (rate .0 .0) (rate .0 .1 .0 .at .0)
-    (c .before .from-id .result) (bit-is _ _ (c .before .before .before .before .before .before .before .before .before .read-bit .ensures) (dir .1)) (read-is _ _ (c .before .before .before .before .before .read-ue-below .ensures) (rate .1))
-    (c .before .from-id .ensures) (c .plain .ensures)
+returns-3 c =
+    let d = c .before .before .before .before .before .before .before in
+    let f = c .before .before .before in
+    change-end _ _ _ _ _ _ _ _ _ _ _ _ (bit-is _ _ (d .before .before .read-bit .ensures) (d .direction .given .1))
+    (read-is _ _ (f .before .before .read-ue-below .ensures) (f .rate .given .1)) (c .before .from-id .ensures) (c .plain .ensures)
 
 pub read-change-spec : {M : Type 1} → statement M
 read-change-spec =

@@ -16,7 +16,8 @@ use Rattle.pps.proofs.groups.read_rectangles.Statement.{statement}
 use Rattle.pps.proofs.groups.read_rectangles.Tie as tie
 
 abbrev Inv-loop : tie.InvT-loop
-Inv-loop s from num-slice-groups-minus1 width size rects₀ at₀ i₀ count rects at i = RowSo (rectangle width size) s count (at₀ .at .0) noRects i rects (at .at .0)
+Inv-loop s from num-slice-groups-minus1 width size rects₀ at₀ i₀ count rects at i =
+    RowSo (rectangle width size) s count (at₀ .at .0) noRects i rects (at .at .0)
 
 abbrev μ-loop : tie.MeasureT-loop
 μ-loop s from num-slice-groups-minus1 width size rects₀ at₀ i₀ count rects at i = count - i
@@ -27,8 +28,9 @@ no-rectangles-requires c κs = search needs
 loop-holds : tie.Need-loop-holds Inv-loop μ-loop
 loop-holds c = let a = c .before .before .args in
     let f = rectangle (a .geometry .«pic_width_in_mbs») (a .geometry .«pic_size_in_map_units») in
-    subst (λ (l : List SliceRect). RowSo f (a .s .now) (a .num-slice-groups-minus1) (a .next .at .0) noRects 0 l (a .next .at .0)) (sym (c .no-rectangles .ensures))
-    (row-first f (a .s .now) (a .num-slice-groups-minus1) (a .next .at .0) noRects (omega arith))
+    let p = a .next .at .0 in
+    subst (λ (l : List SliceRect). RowSo f (a .s .now) (a .num-slice-groups-minus1) p noRects 0 l p) (sym (c .no-rectangles .ensures))
+    (row-first f (a .s .now) (a .num-slice-groups-minus1) p noRects (omega arith))
 
 rectangle-requires : tie.Need-rectangle-requires Inv-loop μ-loop
 rectangle-requires c κs = search needs
@@ -46,13 +48,12 @@ refused-requires : tie.Need-refused-requires Inv-loop μ-loop
 refused-requires c κs = search needs
 
 returns : tie.Need-returns Inv-loop μ-loop
-returns c = let a = c .before .before .before .before .before .before .before .before .before .args in
+returns c =
     let l = c .before .before .before .before .before .before .loop in
-    let told = c .before .before .enum-told .given in
-    rects-stop (a .from) (a .num-slice-groups-minus1) (a .geometry .«pic_width_in_mbs») (a .geometry .«pic_size_in_map_units») (a .s .now) (a .next .at .0)
-    (c .refused .result) (l .i) (l .at .at .0) (l .rects) (l .inv)
-    (told .0 .0) (c .before .number .result) (c .before .before .before .before .before .loop-test .taken) (rect-is _ _ (c .before .before .before .before .rectangle .ensures) (told .1))
-    (c .before .number .ensures ∙ ap (λ (x : Rect). number (rectAnswer x)) (told .1)) (c .refused .ensures)
+    let told = c .before .before .enum-told .given .1 in
+    rects-stop _ _ _ _ _ _ _ _ _ _ (l .inv) _ _ (c .before .before .before .before .before .loop-test .taken)
+    (rect-is _ _ (c .before .before .before .before .rectangle .ensures) told)
+    (c .before .number .ensures ∙ ap (λ (x : Rect). number (rectAnswer x)) told) (c .refused .ensures)
 
 mul-rects : tie.Need-mul-rects Inv-loop μ-loop
 mul-rects c = search needs
@@ -67,21 +68,15 @@ loop-less : tie.Need-loop-less Inv-loop μ-loop
 loop-less c = search needs
 
 loop-again : tie.Need-loop-again Inv-loop μ-loop
-loop-again c = let a = c .before .before .before .before .before .before .before .before .args in
-    let l = c .before .before .before .before .before .loop in
-    let known = c .before .field .given in
-    let f = rectangle (a .geometry .«pic_width_in_mbs») (a .geometry .«pic_size_in_map_units») in
-    row-more f (a .s .now) (a .num-slice-groups-minus1) (a .next .at .0) noRects (l .i) (l .rects) (l .at .at .0) (l .inv)
-    (known .0 .0) (known .0 .1 .0 .at .0) (c .before .before .before .before .loop-test .taken) (rect-is _ _ (c .before .before .before .rectangle .ensures) (known .1))
+loop-again c =
+    row-more _ _ _ _ _ _ _ _ (c .before .before .before .before .before .loop .inv) _ _ (c .before .before .before .before .loop-test .taken)
+    (rect-is _ _ (c .before .before .before .rectangle .ensures) (c .before .field .given .1))
 
 given-requires : tie.Need-given-requires Inv-loop μ-loop
 given-requires c κs = search needs
 
 returns-2 : tie.Need-returns-2 Inv-loop μ-loop
-returns-2 c = let a = c .before .before .before .before .before .args in
-    let l = c .before .before .loop in
-    rects-end (a .from) (a .num-slice-groups-minus1) (a .geometry .«pic_width_in_mbs») (a .geometry .«pic_size_in_map_units») (a .s .now) (a .next .at .0)
-    (c .given .result) (l .i) (l .at .at .0) (l .rects) (l .inv) (c .before .loop-test .left) (c .given .ensures)
+returns-2 c = rects-end _ _ _ _ _ _ _ _ _ _ (c .before .before .loop .inv) (c .before .loop-test .left) (c .given .ensures)
 
 pub read-rectangles-spec : {M : Type 1} → statement M
 read-rectangles-spec =

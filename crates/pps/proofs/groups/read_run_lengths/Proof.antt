@@ -15,7 +15,8 @@ use Rattle.pps.proofs.groups.read_run_lengths.Statement.{statement}
 use Rattle.pps.proofs.groups.read_run_lengths.Tie as tie
 
 abbrev Inv-loop : tie.InvT-loop
-Inv-loop s from num-slice-groups-minus1 size run-length-minus1₀ at₀ i₀ count run-length-minus1 at i = RowSo (ueBelow size badRunLength) s count (at₀ .at .0) noRuns i run-length-minus1 (at .at .0)
+Inv-loop s from num-slice-groups-minus1 size run-length-minus1₀ at₀ i₀ count run-length-minus1 at i =
+    RowSo (ueBelow size badRunLength) s count (at₀ .at .0) noRuns i run-length-minus1 (at .at .0)
 
 abbrev μ-loop : tie.MeasureT-loop
 μ-loop s from num-slice-groups-minus1 size run-length-minus1₀ at₀ i₀ count run-length-minus1 at i = count - i
@@ -43,12 +44,12 @@ refused-requires : tie.Need-refused-requires Inv-loop μ-loop
 refused-requires c κs = search needs
 
 returns : tie.Need-returns Inv-loop μ-loop
-returns c = let a = c .before .before .before .before .before .before .before .before .args in
+returns c =
     let l = c .before .before .before .before .before .before .loop in
-    let told = c .before .before .enum-told .given in
-    runs-stop (a .from) (a .num-slice-groups-minus1) 0 (a .size) (a .s .now) (a .next .at .0) (c .refused .result) (l .i) (l .at .at .0) (l .run-length-minus1) (l .inv)
-    (told .0 .0) (c .before .number .result) (c .before .before .before .before .before .loop-test .taken) (read-is _ _ (c .before .before .before .before .read-ue-below .ensures) (told .1))
-    (c .before .number .ensures ∙ ap (λ (x : Bits). number (answer x)) (told .1)) (c .refused .ensures)
+    let told = c .before .before .enum-told .given .1 in
+    runs-stop _ _ 0 _ _ _ _ _ _ _ (l .inv) _ _ (c .before .before .before .before .before .loop-test .taken)
+    (read-is _ _ (c .before .before .before .before .read-ue-below .ensures) told)
+    (c .before .number .ensures ∙ ap (λ (x : Bits). number (answer x)) told) (c .refused .ensures)
 
 mul-run-length-minus1 : tie.Need-mul-run-length-minus1 Inv-loop μ-loop
 mul-run-length-minus1 c = search needs
@@ -63,11 +64,9 @@ loop-less : tie.Need-loop-less Inv-loop μ-loop
 loop-less c = search needs
 
 loop-again : tie.Need-loop-again Inv-loop μ-loop
-loop-again c = let a = c .before .before .before .before .before .before .before .args in
-    let l = c .before .before .before .before .before .loop in
-    let known = c .before .field .given in
-    row-more (ueBelow (a .size) badRunLength) (a .s .now) (a .num-slice-groups-minus1 + 1) (a .next .at .0) noRuns (l .i) (l .run-length-minus1) (l .at .at .0) (l .inv)
-    (known .0 .0) (known .0 .1 .0 .at .0) (c .before .before .before .before .loop-test .taken) (read-is _ _ (c .before .before .before .read-ue-below .ensures) (known .1))
+loop-again c =
+    row-more _ _ _ _ _ _ _ _ (c .before .before .before .before .before .loop .inv) _ _ (c .before .before .before .before .loop-test .taken)
+    (read-is _ _ (c .before .before .before .read-ue-below .ensures) (c .before .field .given .1))
 
 no-rectangles-requires : tie.Need-no-rectangles-requires Inv-loop μ-loop
 no-rectangles-requires c κs = search needs
@@ -76,10 +75,9 @@ given-requires : tie.Need-given-requires Inv-loop μ-loop
 given-requires c κs = search needs
 
 returns-2 : tie.Need-returns-2 Inv-loop μ-loop
-returns-2 c = let a = c .before .before .before .before .before .args in
-    let l = c .before .before .before .loop in
-    runs-end (a .from) (a .num-slice-groups-minus1) 0 (a .size) (a .s .now) (a .next .at .0) (c .given .result) (l .i) (l .at .at .0) (l .run-length-minus1) (l .inv)
-    (c .before .before .loop-test .left) (c .before .no-rectangles .result) (c .before .no-rectangles .ensures) (c .given .ensures)
+returns-2 c =
+    runs-end _ _ 0 _ _ _ _ _ _ _ (c .before .before .before .loop .inv) (c .before .before .loop-test .left) _ (c .before .no-rectangles .ensures)
+    (c .given .ensures)
 
 pub read-run-lengths-spec : {M : Type 1} → statement M
 read-run-lengths-spec =

@@ -23,7 +23,8 @@ number-requires c κs = search needs
 returns : tie.Need-returns
 returns c =
     let told = c .before .enum-told .given .1 in
-    rect-stop _ _ _ _ _ _ (read-is _ _ (c .before .before .before .read-ue .ensures) told) (c .number .ensures ∙ ap (λ (x : Bits). number (answer x)) told)
+    rect-stop _ _ _ _ _ _ (read-is _ _ (c .before .before .before .read-ue .ensures) told)
+    (c .number .ensures ∙ ap (λ (x : Bits). number (answer x)) told)
 
 read-ue-requires-2 : tie.Need-read-ue-requires-2
 read-ue-requires-2 c κs = search needs
