@@ -35,9 +35,8 @@ use Rattle.bits.specs.declared.BitReader.{BitReader}
 use Rattle.bits.specs.declared.BitWriter.{BitWriter}
 use Rattle.bits.specs.declared.Mapped.{Mapped}
 use Rattle.bits.specs.declared.Put.{Put}
-use Rattle.bits.specs.Rule.{trailingBits}
-use Rattle.bits.specs.Answer.{Ans, got, no, Told, told, denied, toldNumber, mappedAnswer, Writes}
-use Rattle.bits.specs.Writing.{Wrote, wrote, kept, WriteMeans, Field, codeOf, HasCode, without, writeField, writeTrailing}
+use Rattle.bits.specs.Reading.{Ans, got, no, Told, told, denied, toldNumber, mappedAnswer}
+use Rattle.bits.specs.Writing.{Wrote, wrote, kept, Writes, WriteMeans, Field, codeOf, HasCode, without, writeField, writeTrailing}
 use Rattle.bits.proofs.Writing.{field-means, trailing-means}
 use Rattle.pps.specs.declared.Geometry.{Geometry}
 use Rattle.pps.specs.declared.SliceRect.{SliceRect}
@@ -282,7 +281,7 @@ module _ (w p c : ℕ) (out out′ : List ℕ) {n : ℕ} {rest : List ℕ} (no0 
   pub trailing-refused : FrontsPut w p c out′ (λ s. writeTrailing out s) (n ∷ rest) → (rest ≡ w ∷ p ∷ c ∷ []) × (out′ ≡ out)
   trailing-refused =
       put-refused (λ s. writeTrailing out s)
-      (λ s. means-keeps out s (trailingBits (s .count)) Unit 0 (writeTrailing out s) (trailing-means out s))
+      (λ s. means-keeps out s _ Unit 0 (writeTrailing out s) (trailing-means out s))
 
 -- ---- slice groups
 

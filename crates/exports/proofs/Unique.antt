@@ -13,8 +13,8 @@ use Rattle.annexb.proofs.Laws.{one-result}
 use Rattle.bits.specs.declared.BitReader.{BitReader}
 use Rattle.bits.specs.declared.BitWriter.{BitWriter}
 use Rattle.bits.specs.declared.Mapped.{Mapped}
-use Rattle.bits.specs.Answer.{Ans, Told, toldNumber, mappedAnswer, putBack, roomBack}
-use Rattle.bits.specs.Step.{Wrote}
+use Rattle.bits.specs.Reading.{Ans, Told, toldNumber, mappedAnswer}
+use Rattle.bits.specs.Writing.{Wrote, putBack, roomBack}
 use Rattle.pps.specs.declared.Geometry.{Geometry}
 use Rattle.pps.specs.declared.SliceGroupRead.{SliceGroupRead}
 use Rattle.pps.specs.declared.SliceRect.{SliceRect}

@@ -24,8 +24,8 @@ use Rattle.bits.specs.declared.Mapped.the-variants.{Value as Is, Refused as NRe
 use Rattle.bits.specs.declared.BitWriter.{BitWriter}
 use Rattle.bits.specs.declared.Put.{Put}
 use Rattle.bits.specs.declared.Put.the-variants.{Done, Refused as PRefused}
-use Rattle.bits.specs.Answer.{Ans, Told, Reads, ReadsBit, ReadsSigned, Moves, moreBack, alignedBack, mappedAnswer, mappedBack, toldNumber, Writes}
-use Rattle.bits.specs.Step.{Wrote}
+use Rattle.bits.specs.Reading.{Ans, Told, Reads, ReadsBit, ReadsSigned, Moves, moreBack, alignedBack, mappedAnswer, mappedBack, toldNumber}
+use Rattle.bits.specs.Writing.{Wrote, writer, Writes}
 use Rattle.exports.specs.Fronts.{Fronts}
 
 -- ---- reading: the number, the value and the place behind it; of a refusal no value, and the place as it came
@@ -94,9 +94,6 @@ pub record FrontsMapped (a : Told ℤ) (value value′ : ℤ) (number : ℕ) : T
 
 -- ---- writing: the number, and the writer: bytes written, pending bits as a number, and their count
 
-abbrev pub writerAt : ℕ → ℕ → ℕ → BitWriter
-writerAt w p c = record { written = record { 0 = w }; pending = p; count = c }
-
 abbrev pub putState : ℕ → BitWriter → List ℕ
 putState n s = n ∷ s .written .0 ∷ s .pending ∷ s .count ∷ []
 
@@ -107,7 +104,7 @@ putNumbers (PRefused n s) = putState n s
 -- a call that writes from the writer of these three numbers, and answers what such a call answers
 pub record FrontsPut (written pending count : ℕ) (out′ : List ℕ) (written-by : BitWriter → Wrote) (answer′ : List ℕ) : Type 0 where
   pub from : BitWriter
-  pub from-is : from ≡ writerAt written pending count
+  pub from-is : from ≡ writer written pending count
   pub r : Put
   pub call : Writes from r out′ (written-by from)
   pub told : answer′ ≡ putNumbers r

@@ -2,7 +2,7 @@
 ghost use mathlib.Core.Path.{_≡_};
 ghost use Prim.Native.Nat.{_%_};
 ghost use lib.Dec.{eqb};
-ghost use Rattle.bits.specs.Answer.{readerAt, readBits, readBit, readUe, readSe, skipped, hasMore, finishRbsp, finishSei, wholeBytes};
+ghost use Rattle.bits.specs.Reading.{readerAt, readBits, readBit, readUe, readSe, skipped, hasMore, finishRbsp, finishSei, wholeBytes};
 ghost use Rattle.exports.specs.Bits.{bitsNumbers, bitNumbers, movedNumbers, signedNumbers, moreNumbers, alignedNumbers};
 ghost use Rattle.exports.specs.Bits.{FrontsBits, FrontsBit, FrontsMoved, FrontsSigned, FrontsMore, FrontsAligned};
 use super::numbers::flag;

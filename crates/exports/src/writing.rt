@@ -1,8 +1,9 @@
 // Writing bits: the calls of `bits`. A writer is the count of bytes written, the pending bits as a number, and their count.
 ghost use mathlib.Core.Path.{_≡_};
 ghost use lib.Dec.{eqb};
-ghost use Rattle.bits.specs.Answer.{writeBits, writeBit, writeUe, writeSe, writeTrailing, mapped};
-ghost use Rattle.exports.specs.Bits.{writerAt, putState, putNumbers, FrontsPut, FrontsMapped};
+ghost use Rattle.bits.specs.Reading.{mapped};
+ghost use Rattle.bits.specs.Writing.{writer, writeBits, writeBit, writeUe, writeSe, writeTrailing};
+ghost use Rattle.exports.specs.Bits.{putState, putNumbers, FrontsPut, FrontsMapped};
 use super::numbers::wide;
 use bits::BitWriter;
 use bits::BytePos;
@@ -11,7 +12,7 @@ use bits::Put;
 use bits::golomb_to_signed;
 
 fn writer_of(written: usize, pending: u8, count: u8) -> BitWriter
-    ensures { λ r. ⌜ r ≡ writerAt written pending count ⌝ }
+    ensures { λ r. ⌜ r ≡ writer written pending count ⌝ }
 {
     BitWriter {
         written: BytePos(written),
