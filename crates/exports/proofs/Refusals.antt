@@ -29,7 +29,8 @@ use Rattle.rbsp.specs.Step.{next, readEntry, stuffs, escapes, writeEntry}
 use Rattle.rbsp.specs.Answer.{Decoding, refuses, decodeKept, decodeTail, decodeNal, decodeOf, numberOf}
 use Rattle.annexb.specs.declared.AnnexBReader.{AnnexBReader}
 use Rattle.annexb.specs.Answer.{pushAnswer, resetAnswer, entering}
-use Rattle.annexb.proofs.Laws.{push-kept, push-number}
+use Rattle.annexb.specs.Step.{stepping}
+use Rattle.annexb.proofs.Laws.{push-number}
 use Rattle.annexb.proofs.Completing.{reset-kept}
 use Rattle.bits.specs.declared.BitReader.{BitReader}
 use Rattle.bits.specs.declared.BitWriter.{BitWriter}
@@ -210,7 +211,8 @@ module _ (s : AnnexBReader) (room marks room′ marks′ : List ℕ) {n : ℕ} {
   frame-push-refused chunk f =
       let w = length room in
       let m = length marks in
-      frame-refused (push-kept s chunk w m (λ z. no0 (head (f .told) ∙ f .call .number-is ∙ push-number s chunk w m ∙ z))) f
+      let e = entering s (length chunk) w m in
+      frame-refused (push-refused stepping e s chunk w m (λ z. no0 (head (f .told) ∙ f .call .number-is ∙ push-number s chunk w m ∙ z))) f
 
   pub frame-reset-refused : FrontsReset s room marks room′ marks′ (n ∷ rest)
       → (rest ≡ 0 ∷ 0 ∷ 0 ∷ cond (s .«in_unit») 1 0 ∷ s .zeros ∷ []) × ((room′ ≡ room) × (marks′ ≡ marks))
