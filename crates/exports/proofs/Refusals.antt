@@ -28,7 +28,7 @@ use Rattle.rbsp.specs.Rule.{unescape, firstBreak}
 use Rattle.rbsp.specs.Step.{next, readEntry, stuffs, escapes, writeEntry}
 use Rattle.rbsp.specs.Answer.{Decoding, refuses, decodeKept, decodeTail, decodeNal, decodeOf, numberOf}
 use Rattle.annexb.specs.declared.AnnexBReader.{AnnexBReader}
-use Rattle.annexb.specs.Answer.{pushAnswer, resetAnswer, entering}
+use Rattle.annexb.specs.Answer.{entering}
 use Rattle.annexb.specs.Step.{stepping}
 use Rattle.annexb.proofs.Laws.{push-number}
 use Rattle.annexb.proofs.Completing.{reset-kept}
