@@ -25,7 +25,7 @@ extern "C" {
 enum dampfeather_number {
     DAMPFEATHER_DONE = 0,
     DAMPFEATHER_TOO_LONG = 1,              /* a lent array has over 16,777,216 elements */
-    DAMPFEATHER_BAD_STATE = 2,             /* a place past the end; bytes past the room; over 2 zeros; over 7 pending bits, or a value past their count */
+    DAMPFEATHER_BAD_STATE = 2,             /* a place past the end; bytes past the room; over 2 zeros; over 7 pending bits, or a value over them */
     DAMPFEATHER_BAD_WIDTH = 3,             /* a width over 32, or a value that needs more bits than its width */
     DAMPFEATHER_BITS_RUN_OUT = 4,          /* fewer bits are left than the call needs */
     DAMPFEATHER_EXP_GOLOMB_TOO_LARGE = 5,  /* more than 31 zeros before a code's one */
