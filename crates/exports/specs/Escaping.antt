@@ -1,4 +1,4 @@
--- The numbers of the states and answers of `rbsp`. Assumes nothing: these are definitions.
+-- The numbers of the states and answers of `rbsp`.
 use Prim.Native.Nat.{ℕ}
 use mathlib.Core.Bool.{Bool, cond}
 use lib.Dec.{eqb}
@@ -18,17 +18,22 @@ use Rattle.rbsp.specs.Answer.{ReadPush, WritePush, Decodes}
 abbrev pub readerOf : ℕ → ℕ → Bool → ParseState
 readerOf zeros skip behindThree = cond behindThree PostThree (cond (eqb skip 0) (Start zeros) (Skip skip))
 
--- a state, behind the number, the bytes taken and the bytes written
+-- the number, the bytes taken and written, and the state behind them
 abbrev pub readState : ℕ → ℕ → ℕ → ParseState → List ℕ
 readState n t w (Start z) = n ∷ t ∷ w ∷ z ∷ 0 ∷ 0 ∷ []
 readState n t w (Skip k) = n ∷ t ∷ w ∷ 0 ∷ k ∷ 0 ∷ []
 readState n t w PostThree = n ∷ t ∷ w ∷ 0 ∷ 0 ∷ 1 ∷ []
 
-abbrev pub readNumbers : Pushed → List ℕ
-readNumbers r = readState (r .number) (r .taken) (r .written) (r .state .state)
+-- what a push from three numbers answers: where no byte was taken, and so where it was refused at entry, they come back as they came
+abbrev pub readNumbers : ℕ → ℕ → Bool → Pushed → List ℕ
+readNumbers zeros skip behindThree r =
+    cond (eqb (r .taken) 0)
+    (r .number ∷ 0 ∷ r .written ∷ zeros ∷ skip ∷ cond behindThree 1 0 ∷ [])
+    (readState (r .number) (r .taken) (r .written) (r .state .state))
 
-abbrev pub FrontsRead : ParseState → List ℕ → List ℕ → List ℕ → List ℕ → Type 0
-FrontsRead s chunk out out′ = Fronts (ReadPush s chunk out out′) readNumbers
+abbrev pub FrontsRead : ℕ → ℕ → Bool → List ℕ → List ℕ → List ℕ → List ℕ → Type 0
+FrontsRead zeros skip behindThree chunk out out′ =
+    Fronts (ReadPush (readerOf zeros skip behindThree) chunk out out′) (readNumbers zeros skip behindThree)
 
 abbrev pub writerOf : ℕ → ByteWriter
 writerOf zeros = record { «zero_count» = zeros }

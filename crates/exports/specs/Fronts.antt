@@ -1,5 +1,5 @@
--- An exported call is the call that it fronts. Assumes nothing: this is a definition.
-use Prim.Native.Nat.{ℕ}
+-- An exported call is the call that it fronts.
+use Prim.Native.Nat.{ℕ, zero, suc}
 use mathlib.Core.Path.{_≡_}
 use mathlib.Core.List.{List}
 
@@ -8,3 +8,8 @@ pub record Fronts {R : Type 0} (Call : R → Type 0) (numbers : R → List ℕ) 
   pub r : R
   pub call : Call r
   pub told : answer′ ≡ numbers r
+
+-- what lent memory holds as a call returns: what the call gives where its number is 0, and what it held before where it is refused
+abbrev pub lentAfter : {A : Type 0} → ℕ → A → A → A
+lentAfter zero given before = given
+lentAfter (suc n) given before = before

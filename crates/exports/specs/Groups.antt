@@ -1,4 +1,4 @@
--- The numbers of the answers of `pps`. Assumes nothing: these are definitions.
+-- The numbers of the answers of `pps`.
 use Prim.Native.Nat.{ℕ}
 use mathlib.Core.Path.{_≡_}
 use mathlib.Core.Bool.{cond}
@@ -15,9 +15,10 @@ use Rattle.pps.specs.declared.SliceGroupChangeType.{SliceGroupChangeType}
 use Rattle.pps.specs.declared.SliceGroupChangeType.the-variants.{BoxOut, RasterScan, WipeOut}
 use Rattle.pps.specs.declared.SliceGroup.{SliceGroup}
 use Rattle.pps.specs.declared.SliceGroup.the-variants.{Interleaved, Dispersed, ForegroundAndLeftover, Changing, ExplicitAssignment}
+use Rattle.pps.specs.declared.SliceGroups.{SliceGroups}
 use Rattle.pps.specs.declared.SliceGroupRead.{SliceGroupRead}
 use Rattle.pps.specs.Answer.{ReadsRect, ReadsGroups, noRect}
-use Rattle.exports.specs.Fronts.{Fronts}
+use Rattle.exports.specs.Fronts.{Fronts, lentAfter}
 
 abbrev pub pictureOf : ℕ → ℕ → Geometry
 pictureOf width size = record { «pic_width_in_mbs» = width; «pic_size_in_map_units» = size }
@@ -59,11 +60,22 @@ abbrev pub corners : List SliceRect → List ℕ
 corners rects =
     cornersAt rects 0 (cornersAt rects 1 (cornersAt rects 2 (cornersAt rects 3 (cornersAt rects 4 (cornersAt rects 5 (cornersAt rects 6 []))))))
 
--- the call's own contract, and its answer in four lent arrays
-pub record FrontsGroups (s : List ℕ) (from : BitReader) (n : ℕ) (g : Geometry) (ids ids′ answer′ group′ runs′ rects′ : List ℕ) : Type 0 where
+-- what the three arrays beside the answer hold
+pub record Arrays : Type 0 where
+  pub group : List ℕ
+  pub runs : List ℕ
+  pub rects : List ℕ
+
+abbrev pub arrays : List ℕ → List ℕ → List ℕ → Arrays
+arrays group runs rects = record { group = group; runs = runs; rects = rects }
+
+abbrev pub arraysOf : SliceGroups → Arrays
+arraysOf g = arrays (groupNumbers (g .group)) (g .«run_length_minus1») (corners (g .rectangles))
+
+-- the call's own contract, its answer, and the arrays: as they came where it was refused
+pub record FrontsGroups (s : List ℕ) (from : BitReader) (n : ℕ) (g : Geometry) (ids : List ℕ) (lent : Arrays)
+    (ids′ answer′ : List ℕ) (lent′ : Arrays) : Type 0 where
   pub r : SliceGroupRead
   pub call : ReadsGroups s from n g ids r ids′
   pub told : answer′ ≡ groupsNumbers r
-  pub group : group′ ≡ groupNumbers (r .groups .group)
-  pub runs : runs′ ≡ r .groups .«run_length_minus1»
-  pub rects : rects′ ≡ corners (r .groups .rectangles)
+  pub filled : lent′ ≡ lentAfter (r .number) (arraysOf (r .groups)) lent

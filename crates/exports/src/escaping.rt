@@ -1,6 +1,7 @@
 // Escaping: the calls of `rbsp`.
 ghost use mathlib.Core.Path.{_≡_};
 ghost use Rattle.exports.specs.Escaping.{readerOf, readNumbers, FrontsRead, writerOf, writeNumbers, FrontsWrite, decodeNumbers, FrontsDecode};
+use super::numbers::flag;
 use super::numbers::wide;
 use rbsp::nal::Decoded;
 use rbsp::nal::decode_nal;
@@ -29,9 +30,20 @@ fn reader_of(zeros: u8, skip: usize, post_three: bool) -> ByteReader
     }
 }
 
-fn read_numbers(r: Pushed) -> [u64; 6]
-    ensures { λ a. ⌜ a ≡ readNumbers r ⌝ }
+// Where no byte was taken, the numbers of the state go out as they came in.
+fn read_numbers(r: Pushed, zeros: u8, skip: usize, post_three: bool) -> [u64; 6]
+    ensures { λ a. ⌜ a ≡ readNumbers zeros skip «post_three» r ⌝ }
 {
+    if r.taken == 0 {
+        return [
+            wide(r.number),
+            0,
+            r.written as u64,
+            wide(zeros),
+            skip as u64,
+            flag(post_three),
+        ];
+    }
     let reader = r.state;
     let state = reader.state;
     match state {
@@ -65,10 +77,10 @@ pub extern "C" fn dampfeather_byte_reader_push(
     out: &mut [u8],
     answer: &mut [u64; 6],
 )
-    ensures { λ _. ⌜ FrontsRead (readerOf zeros skip «post_three») (now (chunk .entry)) (now (out .entry)) (now (out .exit)) (now (answer .exit)) ⌝ }
+    ensures { λ _. ⌜ FrontsRead zeros skip «post_three» (now (chunk .entry)) (now (out .entry)) (now (out .exit)) (now (answer .exit)) ⌝ }
 {
     let r = reader_of(zeros, skip, post_three).push(chunk, out);
-    *answer = read_numbers(r);
+    *answer = read_numbers(r, zeros, skip, post_three);
 }
 
 fn write_numbers(r: Written) -> [u64; 4]

@@ -1,8 +1,6 @@
 // Framing: the calls of `annexb`.
 ghost use mathlib.Core.Path.{_≡_};
-ghost use lib.ListN.{length};
-ghost use Rattle.annexb.specs.Answer.{pushAnswer, resetAnswer};
-ghost use Rattle.exports.specs.Framing.{frameOf, frameNumbers, FrontsFrame};
+ghost use Rattle.exports.specs.Framing.{frameOf, frameNumbers, FrontsPush, FrontsReset};
 use super::numbers::flag;
 use super::numbers::wide;
 use annexb::AnnexBReader;
@@ -32,7 +30,8 @@ pub extern "C" fn dampfeather_annexb_push(
     marks: &mut [u64],
     answer: &mut [u64; 6],
 )
-    ensures { λ _. ⌜ FrontsFrame (pushAnswer (frameOf «in_unit» zeros) (now (chunk .entry)) (length (now (room .entry))) (length (now (marks .entry)))) (now (room .entry)) (now (marks .entry)) (now (room .exit)) (now (marks .exit)) (now (answer .exit)) ⌝ }
+    ensures { λ _. ⌜ FrontsPush (frameOf «in_unit» zeros) (now (chunk .entry)) (now (room .entry)) (now (marks .entry))
+        (now (room .exit)) (now (marks .exit)) (now (answer .exit)) ⌝ }
 {
     let s = AnnexBReader { in_unit, zeros };
     let r = s.push(chunk, room, marks);
@@ -48,7 +47,8 @@ pub extern "C" fn dampfeather_annexb_reset(
     marks: &mut [u64],
     answer: &mut [u64; 6],
 )
-    ensures { λ _. ⌜ FrontsFrame (resetAnswer (frameOf «in_unit» zeros) (length (now (room .entry))) (length (now (marks .entry)))) (now (room .entry)) (now (marks .entry)) (now (room .exit)) (now (marks .exit)) (now (answer .exit)) ⌝ }
+    ensures { λ _. ⌜ FrontsReset (frameOf «in_unit» zeros) (now (room .entry)) (now (marks .entry))
+        (now (room .exit)) (now (marks .exit)) (now (answer .exit)) ⌝ }
 {
     let s = AnnexBReader { in_unit, zeros };
     let r = s.reset(room, marks);

@@ -2,8 +2,10 @@
 ghost use mathlib.Core.Path.{_≡_};
 ghost use Rattle.pps.specs.Rule.{numRefIdx};
 ghost use Rattle.pps.specs.Answer.{rectOf};
-ghost use Rattle.exports.specs.Bits.{readerAt, FrontsBits};
-ghost use Rattle.exports.specs.Groups.{pictureOf, rectNumbers, FrontsRect, changeNumber, groupNumbers, groupsNumbers, corners, FrontsGroups};
+ghost use Rattle.bits.specs.Reading.{readerAt};
+ghost use Rattle.exports.specs.Bits.{FrontsBits};
+ghost use Rattle.exports.specs.Groups.{pictureOf, rectNumbers, FrontsRect, changeNumber, groupNumbers, groupsNumbers, corners};
+ghost use Rattle.exports.specs.Groups.{arrays, FrontsGroups};
 use super::numbers::flag;
 use super::numbers::wide;
 use super::numbers::wide_u32;
@@ -136,8 +138,9 @@ fn corners(rects: [SliceRect; 7]) -> [u32; 14]
     ]
 }
 
-// SliceGroup::read. The answer: number, the place behind the last field, num_slice_groups_minus1, and the count of ids written. The group: its map type,
-// the direction, the rate, and pic_size_in_map_units_minus1. The run lengths; and the corners of each rectangle in turn.
+// SliceGroup::read. The answer: number, the place behind the last field, num_slice_groups_minus1, and the count of ids written. The group: its
+// map type, the direction, the rate, and pic_size_in_map_units_minus1. The run lengths; and the corners of each rectangle in turn. A refusal
+// writes the answer alone.
 #[no_mangle]
 pub extern "C" fn dampfeather_read_slice_groups(
     at: usize,
@@ -151,7 +154,9 @@ pub extern "C" fn dampfeather_read_slice_groups(
     runs: &mut [u32; 8],
     rects: &mut [u32; 14],
 )
-    ensures { λ _. ⌜ FrontsGroups (now (s .entry)) (readerAt at) «num_slice_groups_minus1» (pictureOf width size) (now (ids .entry)) (now (ids .exit)) (now (answer .exit)) (now (group .exit)) (now (runs .exit)) (now (rects .exit)) ⌝ }
+    ensures { λ _. ⌜ FrontsGroups (now (s .entry)) (readerAt at) «num_slice_groups_minus1» (pictureOf width size) (now (ids .entry))
+        (arrays (now (group .entry)) (now (runs .entry)) (now (rects .entry)))
+        (now (ids .exit)) (now (answer .exit)) (arrays (now (group .exit)) (now (runs .exit)) (now (rects .exit))) ⌝ }
 {
     let from = BitReader { at: BitPos(at) };
     let geometry = Geometry {
@@ -159,11 +164,14 @@ pub extern "C" fn dampfeather_read_slice_groups(
         pic_size_in_map_units: size,
     };
     let r = SliceGroup::read(s, from, num_slice_groups_minus1, geometry, ids);
+    *answer = groups_numbers(r);
+    if r.number != desk::DONE {
+        return;
+    }
     let groups = r.groups;
     let kind = groups.group;
     let read_runs = groups.run_length_minus1;
     let read_rects = groups.rectangles;
-    *answer = groups_numbers(r);
     *group = group_numbers(kind);
     *runs = read_runs;
     *rects = corners(read_rects);

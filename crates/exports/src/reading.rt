@@ -2,8 +2,9 @@
 ghost use mathlib.Core.Path.{_≡_};
 ghost use Prim.Native.Nat.{_%_};
 ghost use lib.Dec.{eqb};
-ghost use Rattle.bits.specs.Answer.{readBits, readBit, readUe, readSe, skipped, hasMore, finishRbsp, finishSei, wholeBytes};
-ghost use Rattle.exports.specs.Bits.{readerAt, bitsNumbers, bitNumbers, movedNumbers, signedNumbers, signedValue, moreNumbers, alignedNumbers, FrontsAligned, FrontsBits, FrontsBit, FrontsMoved, FrontsSigned, FrontsMore};
+ghost use Rattle.bits.specs.Reading.{readerAt, readBits, readBit, readUe, readSe, skipped, hasMore, finishRbsp, finishSei, wholeBytes};
+ghost use Rattle.exports.specs.Bits.{bitsNumbers, bitNumbers, movedNumbers, signedNumbers, moreNumbers, alignedNumbers};
+ghost use Rattle.exports.specs.Bits.{FrontsBits, FrontsBit, FrontsMoved, FrontsSigned, FrontsMore, FrontsAligned};
 use super::numbers::flag;
 use super::numbers::wide;
 use super::numbers::wide_u32;
@@ -92,24 +93,18 @@ fn signed_numbers(r: Signed) -> [u64; 2]
     }
 }
 
-fn signed_value(r: Signed) -> i32
-    ensures { λ z. ⌜ z ≡ signedValue r ⌝ }
-{
-    match r {
-        Signed::Value(z, _) => z,
-        Signed::Refused(_, _) => 0,
-    }
-}
-
-// BitReader::read_se. The answer: number, and the place behind the value, which is 0 of a refusal.
+// BitReader::read_se. The answer: number, and the place behind the value. A refusal leaves the value as it came.
 #[no_mangle]
 pub extern "C" fn dampfeather_read_se(at: usize, s: &[u8], value: &mut i32, answer: &mut [u64; 2])
-    ensures { λ _. ⌜ FrontsSigned (readerAt at) (readSe (now (s .entry)) at) (now (value .exit)) (now (answer .exit)) ⌝ }
+    ensures { λ _. ⌜ FrontsSigned (readerAt at) (readSe (now (s .entry)) at) (now (value .entry)) (now (value .exit)) (now (answer .exit)) ⌝ }
 {
     let reader = BitReader { at: BitPos(at) };
     let r = reader.read_se(s);
-    *value = signed_value(r);
     *answer = signed_numbers(r);
+    let Signed::Value(z, _) = r else {
+        return;
+    };
+    *value = z;
 }
 
 fn more_numbers(r: More) -> [u64; 2]

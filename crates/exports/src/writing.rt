@@ -1,14 +1,25 @@
 // Writing bits: the calls of `bits`. A writer is the count of bytes written, the pending bits as a number, and their count.
 ghost use mathlib.Core.Path.{_≡_};
 ghost use lib.Dec.{eqb};
-ghost use Rattle.bits.specs.Answer.{writeBits, writeBit, writeUe, writeSe, writeTrailing, mapped};
-ghost use Rattle.exports.specs.Bits.{writerAt, putState, putNumbers, FrontsPut, mappedValue, mappedNumber, FrontsMapped};
+ghost use Rattle.bits.specs.Reading.{mapped};
+ghost use Rattle.bits.specs.Writing.{writer, writeBits, writeBit, writeUe, writeSe, writeTrailing};
+ghost use Rattle.exports.specs.Bits.{putState, putNumbers, FrontsPut, FrontsMapped};
 use super::numbers::wide;
 use bits::BitWriter;
 use bits::BytePos;
 use bits::Mapped;
 use bits::Put;
 use bits::golomb_to_signed;
+
+fn writer_of(written: usize, pending: u8, count: u8) -> BitWriter
+    ensures { λ r. ⌜ r ≡ writer written pending count ⌝ }
+{
+    BitWriter {
+        written: BytePos(written),
+        pending,
+        count,
+    }
+}
 
 fn put_state(number: u8, s: BitWriter) -> [u64; 4]
     ensures { λ a. ⌜ a ≡ putState number s ⌝ }
@@ -41,13 +52,10 @@ pub extern "C" fn dampfeather_write(
     value: u32,
     answer: &mut [u64; 4],
 )
-    ensures { λ _. ⌜ FrontsPut (writerAt written pending count) (now (out .exit)) (writeBits (now (out .entry)) (writerAt written pending count) width value) (now (answer .exit)) ⌝ }
+    ensures { λ _. ⌜ FrontsPut written pending count (now (out .exit)) (λ from. writeBits (now (out .entry)) from width value)
+        (now (answer .exit)) ⌝ }
 {
-    let writer = BitWriter {
-        written: BytePos(written),
-        pending,
-        count,
-    };
+    let writer = writer_of(written, pending, count);
     let r = writer.write(out, width, value);
     *answer = put_numbers(r);
 }
@@ -62,13 +70,9 @@ pub extern "C" fn dampfeather_write_bit(
     bit: bool,
     answer: &mut [u64; 4],
 )
-    ensures { λ _. ⌜ FrontsPut (writerAt written pending count) (now (out .exit)) (writeBit (now (out .entry)) (writerAt written pending count) bit) (now (answer .exit)) ⌝ }
+    ensures { λ _. ⌜ FrontsPut written pending count (now (out .exit)) (λ from. writeBit (now (out .entry)) from bit) (now (answer .exit)) ⌝ }
 {
-    let writer = BitWriter {
-        written: BytePos(written),
-        pending,
-        count,
-    };
+    let writer = writer_of(written, pending, count);
     let r = writer.write_bit(out, bit);
     *answer = put_numbers(r);
 }
@@ -83,13 +87,9 @@ pub extern "C" fn dampfeather_write_ue(
     value: u32,
     answer: &mut [u64; 4],
 )
-    ensures { λ _. ⌜ FrontsPut (writerAt written pending count) (now (out .exit)) (writeUe (now (out .entry)) (writerAt written pending count) value) (now (answer .exit)) ⌝ }
+    ensures { λ _. ⌜ FrontsPut written pending count (now (out .exit)) (λ from. writeUe (now (out .entry)) from value) (now (answer .exit)) ⌝ }
 {
-    let writer = BitWriter {
-        written: BytePos(written),
-        pending,
-        count,
-    };
+    let writer = writer_of(written, pending, count);
     let r = writer.write_ue(out, value);
     *answer = put_numbers(r);
 }
@@ -104,13 +104,9 @@ pub extern "C" fn dampfeather_write_se(
     value: i32,
     answer: &mut [u64; 4],
 )
-    ensures { λ _. ⌜ FrontsPut (writerAt written pending count) (now (out .exit)) (writeSe (now (out .entry)) (writerAt written pending count) value) (now (answer .exit)) ⌝ }
+    ensures { λ _. ⌜ FrontsPut written pending count (now (out .exit)) (λ from. writeSe (now (out .entry)) from value) (now (answer .exit)) ⌝ }
 {
-    let writer = BitWriter {
-        written: BytePos(written),
-        pending,
-        count,
-    };
+    let writer = writer_of(written, pending, count);
     let r = writer.write_se(out, value);
     *answer = put_numbers(r);
 }
@@ -124,13 +120,9 @@ pub extern "C" fn dampfeather_write_rbsp_trailing_bits(
     out: &mut [u8],
     answer: &mut [u64; 4],
 )
-    ensures { λ _. ⌜ FrontsPut (writerAt written pending count) (now (out .exit)) (writeTrailing (now (out .entry)) (writerAt written pending count)) (now (answer .exit)) ⌝ }
+    ensures { λ _. ⌜ FrontsPut written pending count (now (out .exit)) (λ from. writeTrailing (now (out .entry)) from) (now (answer .exit)) ⌝ }
 {
-    let writer = BitWriter {
-        written: BytePos(written),
-        pending,
-        count,
-    };
+    let writer = writer_of(written, pending, count);
     let r = writer.write_rbsp_trailing_bits(out);
     *answer = put_numbers(r);
 }
@@ -140,38 +132,20 @@ pub extern "C" fn dampfeather_write_rbsp_trailing_bits(
 pub extern "C" fn dampfeather_writer_byte_aligned(written: usize, pending: u8, count: u8) -> bool
     ensures { λ r. ⌜ r ≡ eqb count 0 ⌝ }
 {
-    let writer = BitWriter {
-        written: BytePos(written),
-        pending,
-        count,
-    };
+    let writer = writer_of(written, pending, count);
     writer.byte_aligned()
 }
 
-fn mapped_number(r: Mapped) -> u8
-    ensures { λ n. ⌜ n ≡ mappedNumber r ⌝ }
-{
-    match r {
-        Mapped::Value(_) => desk::DONE,
-        Mapped::Refused(n) => n,
-    }
-}
-
-fn mapped_value(r: Mapped) -> i32
-    ensures { λ z. ⌜ z ≡ mappedValue r ⌝ }
-{
-    match r {
-        Mapped::Value(z) => z,
-        Mapped::Refused(_) => 0,
-    }
-}
-
-// golomb_to_signed, its number. Of a refusal the value is 0.
+// golomb_to_signed, its number. A refusal leaves the value as it came.
 #[no_mangle]
 pub extern "C" fn dampfeather_golomb_to_signed(val: u32, value: &mut i32) -> u8
-    ensures { λ n. ⌜ FrontsMapped (mapped val) (now (value .exit)) n ⌝ }
+    ensures { λ n. ⌜ FrontsMapped (mapped val) (now (value .entry)) (now (value .exit)) n ⌝ }
 {
     let r = golomb_to_signed(val);
-    *value = mapped_value(r);
-    mapped_number(r)
+    let number = r.number();
+    let Mapped::Value(z) = r else {
+        return number;
+    };
+    *value = z;
+    number
 }

@@ -39,7 +39,9 @@ returns-3 : tie.Need-returns-3
 returns-3 c = search needs
 
 returns-4 : tie.Need-returns-4
-returns-4 c = rw (c .before .before .change-number .ensures, c .before .flag .ensures, c .wide-u32 .ensures, c .before .before .before .before .g .given .1)
+returns-4 c =
+    let changed = c .before .before in
+    rw (changed .change-number .ensures, c .before .flag .ensures, c .wide-u32 .ensures, changed .before .before .g .given .1)
 
 returns-5 : tie.Need-returns-5
 returns-5 c = rw (c .wide-u322 .ensures, c .before .before .g2 .given .1)

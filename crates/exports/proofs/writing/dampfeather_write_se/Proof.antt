@@ -1,8 +1,11 @@
 use borrow.Author.Needs.{needs}
-use mir.ValLaws.{toZ-ofZ}
 use mir.Syntax.{w32}
+use mir.ValLaws.{toZ-ofZ}
 use Rattle.exports.proofs.writing.dampfeather_write_se.Statement.{statement}
 use Rattle.exports.proofs.writing.dampfeather_write_se.Tie as tie
+
+writer-of-requires : tie.Need-writer-of-requires
+writer-of-requires c κs = search needs
 
 write-se-requires : tie.Need-write-se-requires
 write-se-requires c κs = search needs
@@ -15,13 +18,18 @@ same-length c = search needs
 
 returns : tie.Need-returns
 returns c =
-    let b = c .before .before .before .before .before .before in
+    let wrote = c .before .before .before in
+    let made = wrote .before .before in
+    let asked = made .before .before in
     record {
-      r = c .before .before .before .write-se .result;
-      call = rw (toZ-ofZ w32 (b .args .value) (b .fits .value)) at (c .before .before .before .write-se .ensures);
+      from = made .writer-of .result;
+      from-is = made .writer-of .ensures;
+      r = wrote .write-se .result;
+      call = rw (toZ-ofZ w32 (asked .args .value) (asked .fits .value)) at (wrote .write-se .ensures);
       told = c .put-numbers .ensures;
     }
 
 pub dampfeather-write-se-spec : {M : Type 1} → statement M
 dampfeather-write-se-spec =
-    tie.close (tie.spec write-se-requires put-numbers-requires same-length returns)
+    tie.close
+    (tie.spec writer-of-requires write-se-requires put-numbers-requires same-length returns)
