@@ -1,4 +1,8 @@
--- What the proofs of the code cite.
+-- Laws, and what the proofs of the code cite.
 pub mod Carrying
+pub mod Chunk
 pub mod Digits
+pub mod Filling
+pub mod Lines
 pub mod Taking
+pub mod Turning

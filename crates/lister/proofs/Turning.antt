@@ -1,0 +1,102 @@
+-- A turn of the listing, and what all turns come to.
+use Prim.Native.Nat.{ℕ, _≤_}
+use native.Mathlib.Omega.{arith}
+use mathlib.Core.Path.{_≡_, refl, ap, sym, _∙_, subst}
+use mathlib.Core.Logic.{inl, inr}
+use mathlib.Core.List.{List, [], _++_, append-assoc, append-nil}
+use lib.ListN.{length, take, drop}
+use lib.Seq.{length-take-le, drop-length}
+use Rattle.annexb.specs.declared.AnnexBReader.{AnnexBReader}
+use Rattle.annexb.specs.Seen.{new}
+use Rattle.counting.specs.declared.Tally.{Tally}
+use Rattle.counting.specs.Tally.{nothing}
+use Rattle.counting.specs.Listing.{Listing}
+use Rattle.lister.specs.System.{Read, Sent, more, ended, writeFailed, KeptOrFailed, TookIn}
+use Rattle.lister.specs.Listed.{Stands, All, Lists, Turned, Finishes, Came}
+use Rattle.lister.proofs.Carrying.{part-told}
+
+-- ---- one turn
+
+module _ {chunk : List ℕ} {read n read′ status′ : ℕ} (o : TookIn chunk read n read′ status′) {sent : ℕ} {s : AnnexBReader} {t : Tally} (k : Stands [] read sent s t) where
+  -- what a read gave waits
+  waits : Stands (take n chunk) read′ sent s t
+  waits =
+      let all : (k .taken ++ []) ++ take n chunk ≡ k .taken ++ take n chunk = append-assoc (k .taken) [] (take n chunk) in
+      record {
+        taken = k .taken;
+        given = k .given;
+        ends = k .ends;
+        lengths = k .lengths;
+        listing = k .listing;
+        was-read = subst (λ (l : List ℕ). Read l read′) all (o .gave (k .taken ++ []) (k .was-read));
+        was-sent = k .was-sent;
+      }
+
+  pub turned-none : n ≡ 0 → s .zeros ≤ 2 → Turned status′ read′ sent s t
+  turned-none e g = record { good = g; waiting = take n chunk; stands = waits; none-waits = λ _. ap (λ (j : ℕ). take j chunk) e }
+
+  pub turned-some : {taken sent′ status″ : ℕ} {s′ : AnnexBReader} {t′ : Tally} → All (s′ .zeros) taken (length (take n chunk)) status″
+      → Lists (take n chunk) sent s t taken sent′ s′ t′ → Turned status″ read′ sent′ s′ t′
+  turned-some {taken} a l =
+      record {
+        good = a .good;
+        waiting = drop taken (take n chunk);
+        stands = l read′ waits;
+        none-waits = λ h. ap (λ (j : ℕ). drop j (take n chunk)) (a .all-taken h .1) ∙ drop-length (take n chunk);
+      }
+
+-- ---- all turns
+
+-- between two turns: the buffers are as long as they were, and nothing waits
+pub record Going (chunk₀ room₀ marks₀ text₀ chunk room marks text : List ℕ) (read sent status : ℕ) (s : AnnexBReader) (t : Tally) : Type 0 where
+  pub chunk-long : length chunk ≡ length chunk₀
+  pub room-long : length room ≡ length room₀
+  pub marks-long : length marks ≡ length marks₀
+  pub text-long : length text ≡ length text₀
+  pub good : s .zeros ≤ 2
+  pub well : status ≡ more
+  pub stands : Stands [] read sent s t
+
+pub going-first : (chunk room marks text : List ℕ) {read sent status : ℕ} → status ≡ more → Read [] read → Sent [] sent
+    → {s : AnnexBReader} {t : Tally} → s ≡ new → t ≡ nothing → Going chunk room marks text chunk room marks text read sent status s t
+going-first chunk room marks text {read} {sent} {status} e r w {s} {t} es et =
+    let k : Stands [] read sent new nothing = record { taken = []; given = []; ends = []; lengths = []; listing = Listing.none-yet; was-read = r; was-sent = w } in
+    record {
+      chunk-long = refl;
+      room-long = refl;
+      marks-long = refl;
+      text-long = refl;
+      good = omega (arith, ap (λ (x : AnnexBReader). x .zeros) es);
+      well = e;
+      stands = subst (λ (x : AnnexBReader). Stands [] read sent x t) (sym es) (subst (λ (y : Tally). Stands [] read sent new y) (sym et) k);
+    }
+
+module _ {status read sent : ℕ} {s : AnnexBReader} {t : Tally} (u : Turned status read sent s t) where
+  none-left : (status ≡ writeFailed → ⊥) → Stands [] read sent s t
+  none-left h = subst (λ (l : List ℕ). Stands l read sent s t) (u .none-waits h) (u .stands)
+
+  -- after a turn
+  pub going-on : {chunk₀ room₀ marks₀ text₀ chunk room marks text : List ℕ} → length chunk ≡ length chunk₀ → length room ≡ length room₀ → length marks ≡ length marks₀
+      → length text ≡ length text₀ → status ≡ more → Going chunk₀ room₀ marks₀ text₀ chunk room marks text read sent status s t
+  going-on ec er em et e =
+      record { chunk-long = ec; room-long = er; marks-long = em; text-long = et; good = u .good; well = e; stands = none-left (λ h. let z : ⊥ = omega arith in z) }
+
+  -- the last: the input has ended, and its end is told
+  pub came-whole : {sent′ status′ : ℕ} → status ≡ ended → Finishes sent s t sent′ → KeptOrFailed status status′ → Came read sent′ status′
+  came-whole e f w =
+      let whole = f read (none-left (λ h. let z : ⊥ = omega arith in z)) in
+      record { at-end = λ _. whole; read-failed = λ n h. absurd (n (w h ∙ e)); write-failed = λ _. inl whole }
+
+  -- or a call failed
+  pub came-part : (status ≡ ended → ⊥) → Came read sent status
+  came-part n =
+      record { at-end = λ e. absurd (n e); read-failed = λ _ h. part-told (none-left h); write-failed = λ _. inr (u .waiting, part-told (u .stands)) }
+
+pub came-more : {chunk₀ room₀ marks₀ text₀ chunk room marks text : List ℕ} {read sent status : ℕ} {s : AnnexBReader} {t : Tally}
+    → Going chunk₀ room₀ marks₀ text₀ chunk room marks text read sent status s t → Came read sent status
+came-more a =
+    record {
+      at-end = λ e. absurd (let z : ⊥ = omega (arith, a .well) in z);
+      read-failed = λ _ _. part-told (a .stands);
+      write-failed = λ e. absurd (let z : ⊥ = omega (arith, a .well) in z);
+    }

@@ -1,0 +1,58 @@
+-- WHAT THE OPERATING SYSTEM DID. No contract can say what a read put into a buffer or what a write did with one: that is what is assumed, and `Passed` stands for
+-- it. `Passed fd l n`: the bytes l have gone through the descriptor fd in all, in order. It is shut, so a proof has it only from the contract of the function that
+-- reads (`take_in`) or hands out (`hand_out`), whose proofs alone cite `passed-more`, and at the start. Each such call counts its bytes into n, modulo 2^64, which
+-- is lent from call to call: a statement about an earlier count is none about a later one, so what was read or handed out is neither forgotten nor said twice.
+use Prim.Native.Nat.{ℕ, _+_, _%_, _≤_}
+use native.Mathlib.Omega.{arith}
+use mathlib.Core.Path.{_≡_, refl}
+use mathlib.Core.Logic.{_⊎_}
+use mathlib.Core.List.{List, [], _++_}
+use lib.ListN.{length, take, length-append}
+use Rattle.counting.specs.Tally.{wrap}
+
+pub Passed : ℕ → List ℕ → ℕ → Type 0
+Passed fd l n = n % wrap ≡ length l % wrap
+
+pub passed-none : (fd : ℕ) → Passed fd [] 0
+unfolding Passed
+passed-none fd = refl
+
+pub passed-more : (fd : ℕ) (l b : List ℕ) (n n′ : ℕ) → Passed fd l n → n′ % wrap ≡ (n + length b) % wrap → Passed fd (l ++ b) n′
+unfolding Passed
+passed-more fd l b n n′ k e = simp length-append (omega arith)
+
+-- reading gave these bytes; this text was handed to writing
+abbrev pub Read : List ℕ → ℕ → Type 0
+Read h n = Passed 0 h n
+
+abbrev pub Sent : List ℕ → ℕ → Type 0
+Sent w n = Passed 1 w n
+
+-- what the calls came to: more may come; a read gave nothing, so the input has ended; a read failed; a write failed
+abbrev pub more : ℕ
+more = 0
+
+abbrev pub ended : ℕ
+ended = 1
+
+abbrev pub readFailed : ℕ
+readFailed = 2
+
+abbrev pub writeFailed : ℕ
+writeFailed = 3
+
+-- THE CONTRACT OF A READ: what it gave stands at the front of the chunk; more may come exactly if it gave something
+pub record TookIn (chunk : List ℕ) (read count read′ status′ : ℕ) : Type 0 where
+  pub within : count ≤ length chunk
+  pub gave : (h : List ℕ) → Read h read → Read (h ++ take count chunk) read′
+  pub some : 1 ≤ count → status′ ≡ more
+  pub none : count ≡ 0 → (status′ ≡ ended) ⊎ (status′ ≡ readFailed)
+
+-- only a handing out says that a write failed, and it says nothing else
+abbrev pub KeptOrFailed : ℕ → ℕ → Type 0
+KeptOrFailed status status′ = (status′ ≡ writeFailed → ⊥) → status′ ≡ status
+
+-- THE CONTRACT OF A HANDING OUT
+pub record HandedOut (text : List ℕ) (filled sent status sent′ status′ : ℕ) : Type 0 where
+  pub handed : (w : List ℕ) → Sent w sent → Sent (w ++ take filled text) sent′
+  pub well : KeptOrFailed status status′
