@@ -75,7 +75,7 @@ module _ {us : List (List ℕ)} {o : ℕ} {t : Tally} {told : List ℕ} (c : Cou
 
 -- ---- a listing
 
-listing-calls : {h : List ℕ} {s : AnnexBReader} {g e : List ℕ} {t : Tally} {told : List ℕ} → Listing h s g e t told → Calls [] h s g e
+pub listing-calls : {h : List ℕ} {s : AnnexBReader} {g e : List ℕ} {t : Tally} {told : List ℕ} → Listing h s g e t told → Calls [] h s g e
 listing-calls Listing.none-yet = Calls.none-yet
 listing-calls (Listing.pushed l chunk room marks room′ marks′ marks″ r t′ o d) = Calls.pushed (listing-calls l) chunk room marks room′ marks′ r o
 

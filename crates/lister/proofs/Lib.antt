@@ -2,7 +2,9 @@
 pub mod Carrying
 pub mod Chunk
 pub mod Digits
+pub mod Exact
 pub mod Filling
 pub mod Lines
+pub mod Standing
 pub mod Taking
 pub mod Turning
