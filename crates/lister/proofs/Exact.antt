@@ -19,7 +19,8 @@ fewer (Frames.start {s} {i} e p) = omega (arith, fewer p, stays is1 s [] i e .sh
 fewer (Frames.no-end {s} e) = simp length-append (omega arith)
 fewer (Frames.end {s} {i} {f} e p) =
     let cut : length (take i s) + length (drop i s) ≡ length s = simp length-append at (ap length (take-append-drop i s)) in
-    let sum : length (take i s ++ joined (unitsOf f)) ≡ length (take i s) + length (joined (unitsOf f)) = length-append (take i s) (joined (unitsOf f)) in
+    let later = joined (unitsOf f) in
+    let sum : length (take i s ++ later) ≡ length (take i s) + length later = length-append (take i s) later in
     omega (arith, fewer p, cut, sum)
 
 pub units-few : (b : List ℕ) → length (joined (unitsAtReset b)) + length (unitsAtReset b) ≤ length b

@@ -4,9 +4,8 @@ use native.Mathlib.Omega.{arith}
 use mathlib.Core.Path.{_≡_, refl, sym, subst}
 use mathlib.Core.List.{List, [], append-nil}
 use lib.ListN.{length}
-use Rattle.annexb.specs.declared.AnnexBReader.{AnnexBReader}
-use Rattle.counting.specs.declared.Tally.{Tally}
 use Rattle.counting.proofs.Existing.{Exists, every-stream}
+use Rattle.lister.specs.declared.Progress.{Progress}
 use Rattle.lister.specs.Text.{linesBy, modulo}
 use Rattle.lister.specs.System.{Passed, Read, passed-none, passed-more}
 use Rattle.lister.specs.Listed.{Stands}
@@ -18,9 +17,8 @@ at-once fd l = passed-more fd [] l 0 (length l) (passed-none fd) (omega arith)
 pub record Listed (h : List ℕ) : Type 0 where
   pub read : ℕ
   pub sent : ℕ
-  pub state : AnnexBReader
-  pub tally : Tally
-  pub stands : Stands [] read sent state tally
+  pub progress : Progress
+  pub stands : Stands [] read sent progress
   pub all : stands .taken ≡ h
 
 pub every-listed : (h : List ℕ) → Listed h
@@ -29,8 +27,7 @@ every-listed h =
     record {
       read = length h;
       sent = length (linesBy modulo 0 (x .told));
-      state = x .state;
-      tally = x .tally;
+      progress = record { reader = x .state; tally = x .tally };
       stands =
           record {
             taken = h;

@@ -31,14 +31,17 @@ still-ready g z ec er em et =
     }
 
 pub passes : (s : AnnexBReader) {chunk room marks text : ℕ} → Ready (s .zeros) chunk room marks text → entering s chunk room marks ≡ 0
-passes s {chunk} {room} {marks} g = entry-done (chunk ∷ room ∷ marks ∷ []) (ltb 2 (s .zeros)) (g .chunk-few, (g .room-few, (g .marks-few, tt))) (le-ltb 2 (s .zeros) (g .good))
+passes s {chunk} {room} {marks} g =
+    entry-done (chunk ∷ room ∷ marks ∷ []) (ltb 2 (s .zeros)) (g .chunk-few, (g .room-few, (g .marks-few, tt))) (le-ltb 2 (s .zeros) (g .good))
 
-taken-one : (s : AnnexBReader) (chunk : List ℕ) {room marks text : ℕ} → 1 ≤ length chunk → Ready (s .zeros) (length chunk) room marks text → 1 ≤ pushAnswer s chunk room marks .taken
+taken-one : (s : AnnexBReader) (chunk : List ℕ) {room marks text : ℕ} → 1 ≤ length chunk → Ready (s .zeros) (length chunk) room marks text
+    → 1 ≤ pushAnswer s chunk room marks .taken
 taken-one s [] h g = absurd (not-suc-le-zero h)
 taken-one s (b ∷ bs) {room} {marks} h g = push-takes-one s b bs room marks (passes s g) (g .room-3) (g .marks-1)
 
 pub some-listed : (s : AnnexBReader) (chunk room marks : List ℕ) {room′ marks′ : List ℕ} {r : Pushed} {text status status′ : ℕ} → 1 ≤ length chunk
-    → Ready (s .zeros) (length chunk) (length room) (length marks) text → Gave (pushAnswer s chunk (length room) (length marks)) room marks room′ marks′ r → KeptOrFailed status status′
+    → Ready (s .zeros) (length chunk) (length room) (length marks) text
+    → Gave (pushAnswer s chunk (length room) (length marks)) room marks room′ marks′ r → KeptOrFailed status status′
     → Some (r .state .zeros) (r .taken) (length chunk) status status′
 some-listed s chunk room marks {room′} {marks′} {r} h g o w =
     record {

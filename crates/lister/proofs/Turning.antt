@@ -11,15 +11,17 @@ use Rattle.annexb.specs.Seen.{new}
 use Rattle.counting.specs.declared.Tally.{Tally}
 use Rattle.counting.specs.Tally.{nothing}
 use Rattle.counting.specs.Listing.{Listing}
+use Rattle.lister.specs.declared.Progress.{Progress}
 use Rattle.lister.specs.System.{Read, Sent, more, ended, writeFailed, KeptOrFailed, TookIn}
 use Rattle.lister.specs.Listed.{Stands, All, Lists, Turned, Finishes, Came}
 use Rattle.lister.proofs.Carrying.{part-told}
 
 -- ---- one turn
 
-module _ {chunk : List ℕ} {read n read′ status′ : ℕ} (o : TookIn chunk read n read′ status′) {sent : ℕ} {s : AnnexBReader} {t : Tally} (k : Stands [] read sent s t) where
+module _ {chunk : List ℕ} {read n read′ status′ : ℕ} (o : TookIn chunk read n read′ status′) {sent : ℕ} {p : Progress}
+    (k : Stands [] read sent p) where
   -- what a read gave waits
-  waits : Stands (take n chunk) read′ sent s t
+  waits : Stands (take n chunk) read′ sent p
   waits =
       let all : (k .taken ++ []) ++ take n chunk ≡ k .taken ++ take n chunk = append-assoc (k .taken) [] (take n chunk) in
       record {
@@ -32,11 +34,11 @@ module _ {chunk : List ℕ} {read n read′ status′ : ℕ} (o : TookIn chunk r
         was-sent = k .was-sent;
       }
 
-  pub turned-none : n ≡ 0 → s .zeros ≤ 2 → Turned status′ read′ sent s t
+  pub turned-none : n ≡ 0 → p .reader .zeros ≤ 2 → Turned status′ read′ sent p
   turned-none e g = record { good = g; waiting = take n chunk; stands = waits; none-waits = λ _. ap (λ (j : ℕ). take j chunk) e }
 
-  pub turned-some : {taken sent′ status″ : ℕ} {s′ : AnnexBReader} {t′ : Tally} → All (s′ .zeros) taken (length (take n chunk)) status″
-      → Lists (take n chunk) sent s t taken sent′ s′ t′ → Turned status″ read′ sent′ s′ t′
+  pub turned-some : {taken sent′ status″ : ℕ} {p′ : Progress} → All (p′ .reader .zeros) taken (length (take n chunk)) status″
+      → Lists (take n chunk) sent p taken sent′ p′ → Turned status″ read′ sent′ p′
   turned-some {taken} a l =
       record {
         good = a .good;
@@ -48,19 +50,20 @@ module _ {chunk : List ℕ} {read n read′ status′ : ℕ} (o : TookIn chunk r
 -- ---- all turns
 
 -- between two turns: the buffers are as long as they were, and nothing waits
-pub record Going (chunk₀ room₀ marks₀ text₀ chunk room marks text : List ℕ) (read sent status : ℕ) (s : AnnexBReader) (t : Tally) : Type 0 where
+pub record Going (chunk₀ room₀ marks₀ text₀ chunk room marks text : List ℕ) (read sent status : ℕ) (p : Progress) : Type 0 where
   pub chunk-long : length chunk ≡ length chunk₀
   pub room-long : length room ≡ length room₀
   pub marks-long : length marks ≡ length marks₀
   pub text-long : length text ≡ length text₀
-  pub good : s .zeros ≤ 2
+  pub good : p .reader .zeros ≤ 2
   pub well : status ≡ more
-  pub stands : Stands [] read sent s t
+  pub stands : Stands [] read sent p
 
 pub going-first : (chunk room marks text : List ℕ) {read sent status : ℕ} → status ≡ more → Read [] read → Sent [] sent
-    → {s : AnnexBReader} {t : Tally} → s ≡ new → t ≡ nothing → Going chunk room marks text chunk room marks text read sent status s t
+    → {s : AnnexBReader} {t : Tally} → s ≡ new → t ≡ nothing
+    → Going chunk room marks text chunk room marks text read sent status (record { reader = s; tally = t })
 going-first chunk room marks text {read} {sent} {status} e r w {s} {t} es et =
-    let k : Stands [] read sent new nothing = record { taken = []; given = []; ends = []; lengths = []; listing = Listing.none-yet; was-read = r; was-sent = w } in
+    let first : Listing [] s [] [] t [] = rw (es, et) Listing.none-yet in
     record {
       chunk-long = refl;
       room-long = refl;
@@ -68,21 +71,30 @@ going-first chunk room marks text {read} {sent} {status} e r w {s} {t} es et =
       text-long = refl;
       good = omega (arith, ap (λ (x : AnnexBReader). x .zeros) es);
       well = e;
-      stands = subst (λ (x : AnnexBReader). Stands [] read sent x t) (sym es) (subst (λ (y : Tally). Stands [] read sent new y) (sym et) k);
+      stands = record { taken = []; given = []; ends = []; lengths = []; listing = first; was-read = r; was-sent = w };
     }
 
-module _ {status read sent : ℕ} {s : AnnexBReader} {t : Tally} (u : Turned status read sent s t) where
-  none-left : (status ≡ writeFailed → ⊥) → Stands [] read sent s t
-  none-left h = subst (λ (l : List ℕ). Stands l read sent s t) (u .none-waits h) (u .stands)
+module _ {status read sent : ℕ} {p : Progress} (u : Turned status read sent p) where
+  none-left : (status ≡ writeFailed → ⊥) → Stands [] read sent p
+  none-left h = subst (λ (l : List ℕ). Stands l read sent p) (u .none-waits h) (u .stands)
 
   -- after a turn
-  pub going-on : {chunk₀ room₀ marks₀ text₀ chunk room marks text : List ℕ} → length chunk ≡ length chunk₀ → length room ≡ length room₀ → length marks ≡ length marks₀
-      → length text ≡ length text₀ → status ≡ more → Going chunk₀ room₀ marks₀ text₀ chunk room marks text read sent status s t
+  pub going-on : {chunk₀ room₀ marks₀ text₀ chunk room marks text : List ℕ} → length chunk ≡ length chunk₀ → length room ≡ length room₀
+      → length marks ≡ length marks₀ → length text ≡ length text₀ → status ≡ more
+      → Going chunk₀ room₀ marks₀ text₀ chunk room marks text read sent status p
   going-on ec er em et e =
-      record { chunk-long = ec; room-long = er; marks-long = em; text-long = et; good = u .good; well = e; stands = none-left (λ h. let z : ⊥ = omega arith in z) }
+      record {
+        chunk-long = ec;
+        room-long = er;
+        marks-long = em;
+        text-long = et;
+        good = u .good;
+        well = e;
+        stands = none-left (λ h. let z : ⊥ = omega arith in z);
+      }
 
   -- the last: the input has ended, and its end is told
-  pub came-whole : {sent′ status′ : ℕ} → status ≡ ended → Finishes sent s t sent′ → KeptOrFailed status status′ → Came read sent′ status′
+  pub came-whole : {sent′ status′ : ℕ} → status ≡ ended → Finishes sent p sent′ → KeptOrFailed status status′ → Came read sent′ status′
   came-whole e f w =
       let whole = f read (none-left (λ h. let z : ⊥ = omega arith in z)) in
       record { at-end = λ _. whole; read-failed = λ n h. absurd (n (w h ∙ e)); write-failed = λ _. inl whole }
@@ -92,8 +104,8 @@ module _ {status read sent : ℕ} {s : AnnexBReader} {t : Tally} (u : Turned sta
   came-part n =
       record { at-end = λ e. absurd (n e); read-failed = λ _ h. part-told (none-left h); write-failed = λ _. inr (u .waiting, part-told (u .stands)) }
 
-pub came-more : {chunk₀ room₀ marks₀ text₀ chunk room marks text : List ℕ} {read sent status : ℕ} {s : AnnexBReader} {t : Tally}
-    → Going chunk₀ room₀ marks₀ text₀ chunk room marks text read sent status s t → Came read sent status
+pub came-more : {chunk₀ room₀ marks₀ text₀ chunk room marks text : List ℕ} {read sent status : ℕ} {p : Progress}
+    → Going chunk₀ room₀ marks₀ text₀ chunk room marks text read sent status p → Came read sent status
 came-more a =
     record {
       at-end = λ e. absurd (let z : ⊥ = omega (arith, a .well) in z);

@@ -5,15 +5,14 @@ use mathlib.Core.Logic.{_⊎_}
 use mathlib.Core.List.{List, [], _++_}
 use lib.ListN.{length, drop}
 use Rattle.desk.specs.Numbers.{most}
-use Rattle.annexb.specs.declared.AnnexBReader.{AnnexBReader}
 use Rattle.annexb.specs.Rule.{frame, unitsAtReset}
-use Rattle.counting.specs.declared.Tally.{Tally}
 use Rattle.counting.specs.Listing.{Listing}
+use Rattle.lister.specs.declared.Progress.{Progress}
 use Rattle.lister.specs.Text.{linesBy, modulo, unitLinesTold, listingTold}
 use Rattle.lister.specs.System.{Read, Sent, more, ended, writeFailed, KeptOrFailed}
 
--- what a piece of the input is listed with: the reader's zeros, and how many elements the chunk, the room, the marks and the text have.
--- A line for each mark and the total fit the text.
+-- what a piece of the input is listed with: the reader's zeros, and how many elements the chunk, the room, the marks and the text have;
+-- a line for each mark and the total fit the text
 pub record Ready (zeros chunk room marks text : ℕ) : Type 0 where
   pub good : zeros ≤ 2
   pub chunk-few : chunk ≤ most
@@ -23,13 +22,14 @@ pub record Ready (zeros chunk room marks text : ℕ) : Type 0 where
   pub marks-few : marks ≤ most
   pub lines-fit : marks * 47 + 27 ≤ text
 
--- the bytes `waiting` are read and not yet listed; all before them are listed by pushes and tallies, and the lines of the lengths told are all the text
-pub record Stands (waiting : List ℕ) (read sent : ℕ) (s : AnnexBReader) (t : Tally) : Type 0 where
+-- the bytes `waiting` are read and not yet listed; all before them are listed by pushes and tallies, and the lines of the lengths told
+-- are all the text
+pub record Stands (waiting : List ℕ) (read sent : ℕ) (p : Progress) : Type 0 where
   pub taken : List ℕ
   pub given : List ℕ
   pub ends : List ℕ
   pub lengths : List ℕ
-  pub listing : Listing taken s given ends t lengths
+  pub listing : Listing taken (p .reader) given ends (p .tally) lengths
   pub was-read : Read (taken ++ waiting) read
   pub was-sent : Sent (linesBy modulo 0 lengths) sent
 
@@ -46,14 +46,14 @@ pub record All (zeros taken chunk status : ℕ) : Type 0 where
   pub all-taken : (status ≡ writeFailed → ⊥) → (status ≡ more) × (taken ≡ chunk)
 
 -- THE FIRST `taken` BYTES OF A CHUNK ARE LISTED: whatever was listed before, they are behind it, none lost and none twice, and so are their lines
-abbrev pub Lists : List ℕ → ℕ → AnnexBReader → Tally → ℕ → ℕ → AnnexBReader → Tally → Type 0
-Lists chunk sent s t taken sent′ s′ t′ = (read : ℕ) → Stands chunk read sent s t → Stands (drop taken chunk) read sent′ s′ t′
+abbrev pub Lists : List ℕ → ℕ → Progress → ℕ → ℕ → Progress → Type 0
+Lists chunk sent p taken sent′ p′ = (read : ℕ) → Stands chunk read sent p → Stands (drop taken chunk) read sent′ p′
 
 -- after a turn: nothing waits, unless a write failed
-pub record Turned (status read sent : ℕ) (s : AnnexBReader) (t : Tally) : Type 0 where
-  pub good : s .zeros ≤ 2
+pub record Turned (status read sent : ℕ) (p : Progress) : Type 0 where
+  pub good : p .reader .zeros ≤ 2
   pub waiting : List ℕ
-  pub stands : Stands waiting read sent s t
+  pub stands : Stands waiting read sent p
   pub none-waits : (status ≡ writeFailed → ⊥) → waiting ≡ []
 
 -- ALL THAT WAS READ IS LISTED, TO THE TOTAL
@@ -62,8 +62,8 @@ pub record Whole (read sent : ℕ) : Type 0 where
   pub was-read : Read bytes read
   pub was-sent : Sent (listingTold (unitsAtReset bytes)) sent
 
-abbrev pub Finishes : ℕ → AnnexBReader → Tally → ℕ → Type 0
-Finishes sent s t sent′ = (read : ℕ) → Stands [] read sent s t → Whole read sent′
+abbrev pub Finishes : ℕ → Progress → ℕ → Type 0
+Finishes sent p sent′ = (read : ℕ) → Stands [] read sent p → Whole read sent′
 
 -- THE LISTING IS BROKEN OFF: the lines of the units that ended in the bytes listed, and no total; `waiting` was read and is not listed
 pub record Part (waiting : List ℕ) (read sent : ℕ) : Type 0 where
@@ -71,8 +71,8 @@ pub record Part (waiting : List ℕ) (read sent : ℕ) : Type 0 where
   pub was-read : Read (listed ++ waiting) read
   pub was-sent : Sent (unitLinesTold (frame listed .closed)) sent
 
--- WHAT A WHOLE LISTING COMES TO. At the end of the input: the text of the rule's units of all that was read. Where a read failed: the lines of the units that
--- ended in all that was read. Where a write failed, at whatever text: what was handed to it was right.
+-- WHAT A WHOLE LISTING COMES TO. At the end of the input: the text of the rule's units of all that was read. Where a read failed: the lines of
+-- the units that ended in all that was read, and no total. Where a write failed, at whatever text: what was handed to it was right.
 pub record Came (read sent status : ℕ) : Type 0 where
   pub at-end : status ≡ ended → Whole read sent
   pub read-failed : (status ≡ ended → ⊥) → (status ≡ writeFailed → ⊥) → Part [] read sent

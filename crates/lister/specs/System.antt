@@ -1,7 +1,8 @@
--- WHAT THE OPERATING SYSTEM DID. No contract can say what a read put into a buffer or what a write did with one: that is what is assumed, and `Passed` stands for
--- it. `Passed fd l n`: the bytes l have gone through the descriptor fd in all, in order. It is shut, so a proof has it only from the contract of the function that
--- reads (`take_in`) or hands out (`hand_out`), whose proofs alone cite `passed-more`, and at the start. Each such call counts its bytes into n, modulo 2^64, which
--- is lent from call to call: a statement about an earlier count is none about a later one, so what was read or handed out is neither forgotten nor said twice.
+-- WHAT THE OPERATING SYSTEM DID. No contract can say what a read put into a buffer or what a write did with one: that is what is assumed.
+-- `Passed fd l n` stands for it: the bytes l have gone through the descriptor fd in all, in order. It is shut: a proof has it only from the
+-- contract of the function that reads (`take_in`) or hands out (`hand_out`), whose proofs alone cite `passed-more`, and at the start.
+-- Each such call counts its bytes into n, modulo 2^64, which is lent from call to call: what is said of an earlier count is not said of a
+-- later one, so that nothing read or handed out is forgotten or counted twice.
 use Prim.Native.Nat.{ℕ, _+_, _%_, _≤_}
 use native.Mathlib.Omega.{arith}
 use mathlib.Core.Path.{_≡_, refl}

@@ -1,8 +1,9 @@
 // The listing of an Annex B stream: standard input is read to its end, in pieces, and a line for each unit and a total go to standard output.
 // Memory is constant whatever the stream's length. Lengths and counts are u64: a stream of 2^64 bytes is out of reach.
 //
-// What the contracts carry is where a listing stands (specs/Listed.antt): all that was read so far, all that was handed to writing, and what waits between.
-// `read` and `sent` count the one and the other, and `status` says what the operating system's calls came to: system.rt alone writes them.
+// What the contracts carry is where a listing stands (specs/Listed.antt): all that was read so far, all that was handed to writing, and
+// what waits between. `read` and `sent` count the one and the other, and `status` says what the operating system's calls came to: system.rt
+// alone writes them.
 mod system;
 mod text;
 
@@ -35,7 +36,8 @@ fn mark_room() -> [u64; 1024]
     [0; 1024]
 }
 
-// Lists the units that end in the front of a chunk that one push takes: their lines go out at once. Lent three bytes and a mark, a push takes one byte at least.
+// Lists the units that end in the front of a chunk that one push takes: their lines go out at once. Lent three bytes and a mark, a push takes
+// one byte at least.
 fn list_some(
     p: Progress,
     chunk: &[u8],
@@ -48,7 +50,7 @@ fn list_some(
     requires { ⌜ 1 ≤ length (now chunk) ⌝ }
     requires { ⌜ Ready (p .reader .zeros) (length (now chunk)) (length (now room)) (length (now marks)) (length (now text)) ⌝ }
     ensures { λ r. ⌜ Some (r .progress .reader .zeros) (r .taken) (length (now (chunk .entry))) (now (status .entry)) (now (status .exit)) ⌝ }
-    ensures { λ r. ⌜ Lists (now (chunk .entry)) (now (sent .entry)) (p .reader) (p .tally) (r .taken) (now (sent .exit)) (r .progress .reader) (r .progress .tally) ⌝ }
+    ensures { λ r. ⌜ Lists (now (chunk .entry)) (now (sent .entry)) p (r .taken) (now (sent .exit)) (r .progress) ⌝ }
 {
     let before = p.reader;
     let tally = p.tally;
@@ -80,7 +82,7 @@ fn list_chunk(
     requires { ⌜ now status ≡ more ⌝ }
     requires { ⌜ Ready (p .reader .zeros) (length (now chunk)) (length (now room)) (length (now marks)) (length (now text)) ⌝ }
     ensures { λ r. ⌜ All (r .progress .reader .zeros) (r .taken) (length (now (chunk .entry))) (now (status .exit)) ⌝ }
-    ensures { λ r. ⌜ Lists (now (chunk .entry)) (now (sent .entry)) (p .reader) (p .tally) (r .taken) (now (sent .exit)) (r .progress .reader) (r .progress .tally) ⌝ }
+    ensures { λ r. ⌜ Lists (now (chunk .entry)) (now (sent .entry)) p (r .taken) (now (sent .exit)) (r .progress) ⌝ }
 {
     let mut progress = p;
     let mut at: usize = 0;
@@ -114,8 +116,8 @@ fn turn(
 ) -> Progress
     requires { ⌜ now status ≡ more ⌝ }
     requires { ⌜ Ready (p .reader .zeros) (length (now chunk)) (length (now room)) (length (now marks)) (length (now text)) ⌝ }
-    requires { ⌜ Stands [] (now read) (now sent) (p .reader) (p .tally) ⌝ }
-    ensures { λ r. ⌜ Turned (now (status .exit)) (now (read .exit)) (now (sent .exit)) (r .reader) (r .tally) ⌝ }
+    requires { ⌜ Stands [] (now read) (now sent) p ⌝ }
+    ensures { λ r. ⌜ Turned (now (status .exit)) (now (read .exit)) (now (sent .exit)) r ⌝ }
 {
     let n = system::take_in(chunk, read, status);
     if n == 0 {
@@ -135,7 +137,7 @@ fn finish(
     status: &mut u8,
 )
     requires { ⌜ Ready (p .reader .zeros) 0 (length (now room)) (length (now marks)) (length (now text)) ⌝ }
-    ensures { λ _. ⌜ Finishes (now (sent .entry)) (p .reader) (p .tally) (now (sent .exit)) ⌝ }
+    ensures { λ _. ⌜ Finishes (now (sent .entry)) p (now (sent .exit)) ⌝ }
     ensures { λ _. ⌜ KeptOrFailed (now (status .entry)) (now (status .exit)) ⌝ }
 {
     let reader = p.reader;

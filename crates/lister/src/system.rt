@@ -1,5 +1,6 @@
-// All that touches the operating system. What a read put into a buffer and what a write did with one no contract can say (specs/System.antt). So bytes are
-// read here alone, and text is handed out here alone; each is counted, modulo 2^64, and what the calls came to is kept in `status`.
+// All that touches the operating system. What a read put into a buffer and what a write did with one no contract can say
+// (specs/System.antt). So bytes are read here alone, and text is handed out here alone; each is counted, modulo 2^64, and what the calls came
+// to is kept in `status`.
 ghost use mathlib.Core.Path.{_≡_};
 ghost use Prim.Native.Nat.{_≤_};
 ghost use lib.ListN.{length};

@@ -31,7 +31,8 @@ total-line-requires c κs =
     let t = u .before .before .before .before .before in
     let p = t .before .before .before .before .before .before in
     let g = p .before .before .before .before .before .before .before .before .pre in
-    omega (arith, u .unit-lines .ensures .1, u .unit-lines .kept, tallied-long (t .tally2 .ensures), gave-marks-fit (p .reset .ensures), p .reset .kept, g .lines-fit)
+    let few = gave-marks-fit (p .reset .ensures) in
+    omega (arith, few, u .unit-lines .ensures .1, u .unit-lines .kept, p .reset .kept, g .lines-fit)
 
 hand-out-requires : tie.Need-hand-out-requires
 hand-out-requires c κs =
@@ -55,7 +56,8 @@ returns c =
     let p = t .before .before .before .before .before .before in
     let s = p .before .before .before .before .before .before .before .before in
     let a = s .args in (
-      lists-end (a .p .reader) (a .p .tally) (now (a .room)) (now (a .marks)) _ _ _ (now (a .text)) _ _ _ _ (now (a .sent)) (now (a .status)) _ _ _ _ (s .pre) (p .reset .ensures) (t .tally2 .ensures) (u .unit-lines .ensures .0) (e .total-line .ensures) (c .hand-out .ensures),
+      lists-end (a .p) (now (a .room)) (now (a .marks)) _ _ _ (now (a .text)) _ _ _ _ (now (a .sent)) (now (a .status)) _ _
+          _ _ (s .pre) (p .reset .ensures) (t .tally2 .ensures) (u .unit-lines .ensures .0) (e .total-line .ensures) (c .hand-out .ensures),
       c .hand-out .ensures .well,
     )
 

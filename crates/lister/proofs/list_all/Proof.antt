@@ -9,7 +9,8 @@ use Rattle.lister.proofs.list_all.Statement.{statement}
 use Rattle.lister.proofs.list_all.Tie as tie
 
 abbrev Inv-loop : tie.InvT-loop
-Inv-loop chunk₀ room₀ marks₀ text₀ read₀ sent₀ status₀ progress₀ turns₀ chunk room marks text read sent status progress turns = Going chunk₀ room₀ marks₀ text₀ chunk room marks text read sent status (progress .reader) (progress .tally)
+Inv-loop chunk₀ room₀ marks₀ text₀ read₀ sent₀ status₀ progress₀ turns₀ chunk room marks text read sent status progress turns =
+    Going chunk₀ room₀ marks₀ text₀ chunk room marks text read sent status progress
 
 abbrev μ-loop : tie.MeasureT-loop
 μ-loop chunk₀ room₀ marks₀ text₀ read₀ sent₀ status₀ progress₀ turns₀ chunk room marks text read sent status progress turns = turns
@@ -23,61 +24,95 @@ new-requires-2 c κs = search needs
 loop-holds : tie.Need-loop-holds Inv-loop μ-loop
 loop-holds c =
     let s = c .before .before .before .before .before .before in
-    going-first (now (s .args .chunk)) (now (s .args .room)) (now (s .args .marks)) (now (s .args .text)) (s .pre .0) (s .pre .1 .1 .0) (s .pre .1 .1 .1) (c .before .new .ensures) (c .new2 .ensures)
+    let a = s .args in
+    going-first (now (a .chunk)) (now (a .room)) (now (a .marks)) (now (a .text)) (s .pre .0) (s .pre .1 .1 .0) (s .pre .1 .1 .1)
+    (c .before .new .ensures) (c .new2 .ensures)
 
 turn-requires : tie.Need-turn-requires Inv-loop μ-loop
 turn-requires c κs =
-    let l = c .before .before .before .before .before .before .before .before .loop .inv in
-    (l .well, (still-ready (c .before .before .before .before .before .before .before .before .before .before .before .before .before .before .before .pre .1 .0) (l .good) (omega (arith, l .chunk-long)) (l .room-long) (l .marks-long) (l .text-long), l .stands))
+    let l = c .before .before .before .before .before .before .before .before in
+    let v = l .loop .inv in
+    let g = l .before .before .before .before .before .before .before .pre .1 .0 in
+    (v .well, (still-ready g (v .good) (omega (arith, v .chunk-long)) (v .room-long) (v .marks-long) (v .text-long), v .stands))
 
 finish-requires : tie.Need-finish-requires Inv-loop μ-loop
 finish-requires c κs =
-    let t = c .before .before .before .before .before .before .before .before .before .before .before .before .before .before .before .turn in
-    let l = c .before .before .before .before .before .before .before .before .before .before .before .before .before .before .before .before .before .before .before .before .before .before .before .before .loop .inv in
-    let g = c .before .before .before .before .before .before .before .before .before .before .before .before .before .before .before .before .before .before .before .before .before .before .before .before .before .before .before .before .before .before .before .pre .1 .0 in
-    still-ready g (t .ensures .good) zero-le (t .kept .1 .1 .0 ∙ l .room-long) (t .kept .1 .1 .1 .0 ∙ l .marks-long) (t .kept .1 .1 .1 .1 .0 ∙ l .text-long)
+    let t = c .before .before .before .before .before .before .before .before .before .before .before .before .before .before .before in
+    let k = t .turn .kept .1 .1 in
+    let l = t .before .before .before .before .before .before .before .before .before in
+    let v = l .loop .inv in
+    let g = l .before .before .before .before .before .before .before .pre .1 .0 in
+    still-ready g (t .turn .ensures .good) zero-le (k .0 ∙ v .room-long) (k .1 .0 ∙ v .marks-long) (k .1 .1 .0 ∙ v .text-long)
 
 same-length : tie.Need-same-length Inv-loop μ-loop
-same-length c = c .before .before .before .before .before .before .before .before .before .before .before .before .before .before .before .before .before .before .before .before .before .before .turn .kept .1 .0 ∙ c .before .before .before .before .before .before .before .before .before .before .before .before .before .before .before .before .before .before .before .before .before .before .before .before .before .before .before .before .before .before .before .loop .inv .chunk-long
+same-length c =
+    let f = c .before .before .before .before .before .before in
+    let i = f .before .before .before .before .before .before in
+    let t = i .before .before .before .before .before .before .before .before .before .before in
+    t .turn .kept .1 .0 ∙ t .before .before .before .before .before .before .before .before .before .loop .inv .chunk-long
 
 same-length-2 : tie.Need-same-length-2 Inv-loop μ-loop
-same-length-2 c = c .before .before .before .before .before .before .finish .kept .1 .0 ∙ c .before .before .before .before .before .before .before .before .before .before .before .before .before .before .before .before .before .before .before .before .before .before .turn .kept .1 .1 .0 ∙ c .before .before .before .before .before .before .before .before .before .before .before .before .before .before .before .before .before .before .before .before .before .before .before .before .before .before .before .before .before .before .before .loop .inv .room-long
+same-length-2 c =
+    let f = c .before .before .before .before .before .before in
+    let i = f .before .before .before .before .before .before in
+    let t = i .before .before .before .before .before .before .before .before .before .before in
+    f .finish .kept .1 .0 ∙ t .turn .kept .1 .1 .0 ∙ t .before .before .before .before .before .before .before .before .before .loop .inv .room-long
 
 same-length-3 : tie.Need-same-length-3 Inv-loop μ-loop
-same-length-3 c = c .before .before .before .before .before .before .finish .kept .1 .1 .0 ∙ c .before .before .before .before .before .before .before .before .before .before .before .before .before .before .before .before .before .before .before .before .before .before .turn .kept .1 .1 .1 .0 ∙ c .before .before .before .before .before .before .before .before .before .before .before .before .before .before .before .before .before .before .before .before .before .before .before .before .before .before .before .before .before .before .before .loop .inv .marks-long
+same-length-3 c =
+    let f = c .before .before .before .before .before .before in
+    let i = f .before .before .before .before .before .before in
+    let t = i .before .before .before .before .before .before .before .before .before .before in
+    f .finish .kept .1 .1 .0 ∙ t .turn .kept .1 .1 .1 .0 ∙ t .before .before .before .before .before .before .before .before .before .loop .inv .marks-long
 
 same-length-4 : tie.Need-same-length-4 Inv-loop μ-loop
-same-length-4 c = c .before .before .before .before .before .before .finish .kept .1 .1 .1 .0 ∙ c .before .before .before .before .before .before .before .before .before .before .before .before .before .before .before .before .before .before .before .before .before .before .turn .kept .1 .1 .1 .1 .0 ∙ c .before .before .before .before .before .before .before .before .before .before .before .before .before .before .before .before .before .before .before .before .before .before .before .before .before .before .before .before .before .before .before .loop .inv .text-long
+same-length-4 c =
+    let f = c .before .before .before .before .before .before in
+    let i = f .before .before .before .before .before .before in
+    let t = i .before .before .before .before .before .before .before .before .before .before in
+    f .finish .kept .1 .1 .1 .0 ∙ t .turn .kept .1 .1 .1 .1 .0 ∙ t .before .before .before .before .before .before .before .before .before .loop .inv .text-long
 
 returns : tie.Need-returns Inv-loop μ-loop
-returns c = let f = c .before .before .before .before .before .before .finish in came-whole (c .before .before .before .before .before .before .before .before .before .before .before .before .before .before .before .before .before .before .before .before .before .before .turn .ensures) (c .before .before .before .before .before .before .before .before .before .before .before .before .if1 .taken) (f .ensures .0) (f .ensures .1)
+returns c =
+    let f = c .before .before .before .before .before .before in
+    let i = f .before .before .before .before .before .before in
+    let t = i .before .before .before .before .before .before .before .before .before .before in
+    came-whole (t .turn .ensures) (i .if1 .taken) (f .finish .ensures .0) (f .finish .ensures .1)
 
 same-length-5 : tie.Need-same-length-5 Inv-loop μ-loop
-same-length-5 c = c .before .before .before .before .before .before .before .before .before .before .before .turn .kept .1 .0 ∙ c .before .before .before .before .before .before .before .before .before .before .before .before .before .before .before .before .before .before .before .before .loop .inv .chunk-long
+same-length-5 c = search needs
 
 same-length-6 : tie.Need-same-length-6 Inv-loop μ-loop
-same-length-6 c = c .before .before .before .before .before .before .before .before .before .before .before .turn .kept .1 .1 .0 ∙ c .before .before .before .before .before .before .before .before .before .before .before .before .before .before .before .before .before .before .before .before .loop .inv .room-long
+same-length-6 c = search needs
 
 same-length-7 : tie.Need-same-length-7 Inv-loop μ-loop
-same-length-7 c = c .before .before .before .before .before .before .before .before .before .before .before .turn .kept .1 .1 .1 .0 ∙ c .before .before .before .before .before .before .before .before .before .before .before .before .before .before .before .before .before .before .before .before .loop .inv .marks-long
+same-length-7 c = search needs
 
 same-length-8 : tie.Need-same-length-8 Inv-loop μ-loop
-same-length-8 c = c .before .before .before .before .before .before .before .before .before .before .before .turn .kept .1 .1 .1 .1 .0 ∙ c .before .before .before .before .before .before .before .before .before .before .before .before .before .before .before .before .before .before .before .before .loop .inv .text-long
+same-length-8 c = search needs
 
 returns-2 : tie.Need-returns-2 Inv-loop μ-loop
-returns-2 c = came-part (c .before .before .before .before .before .before .before .before .before .before .before .turn .ensures) (c .before .if1 .left)
+returns-2 c =
+    let t = c .before .before .before .before .before .before .before .before .before .before .before in
+    came-part (t .turn .ensures) (c .before .if1 .left)
 
 sub-turns : tie.Need-sub-turns Inv-loop μ-loop
-sub-turns c = omega (arith, c .before .before .before .before .before .before .before .before .before .before .before .before .before .before .before .before .before .before .before .loop-test .taken)
+sub-turns c =
+    let t = c .before .before .before .before .before .before .before .before .before .before .before in
+    omega (arith, t .before .before .before .before .before .before .before .before .loop-test .taken)
 
 loop-less : tie.Need-loop-less Inv-loop μ-loop
-loop-less c = omega (arith, c .before .before .before .before .before .before .before .before .before .before .before .before .before .before .before .before .before .before .before .loop-test .taken)
+loop-less c =
+    let t = c .before .before .before .before .before .before .before .before .before .before .before in
+    omega (arith, t .before .before .before .before .before .before .before .before .loop-test .taken)
 
 loop-again : tie.Need-loop-again Inv-loop μ-loop
 loop-again c =
-    let t = c .before .before .before .before .before .before .before .before .before .before .before .turn in
-    let l = c .before .before .before .before .before .before .before .before .before .before .before .before .before .before .before .before .before .before .before .before .loop .inv in
-    going-on (t .ensures) (t .kept .1 .0 ∙ l .chunk-long) (t .kept .1 .1 .0 ∙ l .room-long) (t .kept .1 .1 .1 .0 ∙ l .marks-long) (t .kept .1 .1 .1 .1 .0 ∙ l .text-long) (c .if2 .left)
+    let t = c .before .before .before .before .before .before .before .before .before .before .before in
+    let k = t .turn .kept .1 in
+    let v = t .before .before .before .before .before .before .before .before .before .loop .inv in
+    going-on (t .turn .ensures) (k .0 ∙ v .chunk-long) (k .1 .0 ∙ v .room-long) (k .1 .1 .0 ∙ v .marks-long) (k .1 .1 .1 .0 ∙ v .text-long)
+    (c .if2 .left)
 
 same-length-9 : tie.Need-same-length-9 Inv-loop μ-loop
 same-length-9 c = c .before .loop .inv .chunk-long

@@ -9,7 +9,8 @@ use Rattle.lister.proofs.list_chunk.Statement.{statement}
 use Rattle.lister.proofs.list_chunk.Tie as tie
 
 abbrev Inv-loop : tie.InvT-loop
-Inv-loop chunk room₀ marks₀ text₀ sent₀ status₀ progress₀ at₀ room marks text sent status progress at = Along chunk room₀ marks₀ text₀ sent₀ (progress₀ .reader) (progress₀ .tally) room marks text sent status (progress .reader) (progress .tally) at
+Inv-loop chunk room₀ marks₀ text₀ sent₀ status₀ progress₀ at₀ room marks text sent status progress at =
+    Along chunk room₀ marks₀ text₀ sent₀ progress₀ room marks text sent status progress at
 
 abbrev μ-loop : tie.MeasureT-loop
 μ-loop chunk room₀ marks₀ text₀ sent₀ status₀ progress₀ at₀ room marks text sent status progress at = length chunk - at
@@ -17,7 +18,8 @@ abbrev μ-loop : tie.MeasureT-loop
 loop-holds : tie.Need-loop-holds Inv-loop μ-loop
 loop-holds c =
     let s = c .before .before .before .before in
-    along-none (now (s .args .chunk)) (now (s .args .room)) (now (s .args .marks)) (now (s .args .text)) (now (s .args .sent)) (s .args .p .reader) (s .args .p .tally) (s .pre .0) (s .pre .1 .good)
+    let a = s .args in
+    along-none (now (a .chunk)) (now (a .room)) (now (a .marks)) (now (a .text)) (now (a .sent)) (a .p) (s .pre .0) (s .pre .1 .good)
 
 sub-list-some : tie.Need-sub-list-some Inv-loop μ-loop
 sub-list-some c = search needs
@@ -58,15 +60,14 @@ returns c =
 loop-less : tie.Need-loop-less Inv-loop μ-loop
 loop-less c =
     let r = c .before .before .before .before .before .before .before .before .before .before in
-    let l = r .before .before .before .before .before .before .before .before in
-    omega (arith, r .list-some .ensures .0 .some-taken, c .before .before .before .before .before .before .before .before .before .before .before .before .before .before .before .before .before .loop-test .taken)
+    omega (arith, r .list-some .ensures .0 .some-taken, r .before .before .before .before .before .before .before .loop-test .taken)
 
 loop-again : tie.Need-loop-again Inv-loop μ-loop
 loop-again c =
     let r = c .before .before .before .before .before .before .before .before .before .before in
     let l = r .before .before .before .before .before .before .before .before in
-    let k = r .list-some .kept in
-    along-more (l .loop .inv) (r .list-some .ensures .0) (r .list-some .ensures .1) (k .1 .1 .0) (k .1 .1 .1 .0) (k .1 .1 .1 .1 .0) (c .if1 .left)
+    let k = r .list-some .kept .1 .1 in
+    along-more (l .loop .inv) (r .list-some .ensures .0) (r .list-some .ensures .1) (k .0) (k .1 .0) (k .1 .1 .0) (c .if1 .left)
 
 same-length-4 : tie.Need-same-length-4 Inv-loop μ-loop
 same-length-4 c = c .before .loop .inv .room-long

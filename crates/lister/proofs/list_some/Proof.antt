@@ -45,9 +45,11 @@ returns c =
     let t = u .before .before .before .before .before in
     let p = t .before .before .before .before .before .before in
     let s = p .before .before .before .before .before .before .before .before .before in
-    let a = s .args in (
-      some-listed (a .p .reader) (now (a .chunk)) (now (a .room)) (now (a .marks)) (s .pre .0) (s .pre .1) (p .push .ensures) (w .hand-out .ensures .well),
-      lists-push (a .p .reader) (a .p .tally) (now (a .room)) (now (a .marks)) _ _ _ (now (a .text)) _ _ _ _ (now (a .sent)) (now (a .status)) _ _ (now (a .chunk)) (p .push .ensures) (t .tally2 .ensures) (u .unit-lines .ensures .0) (w .hand-out .ensures),
+    let a = s .args in
+    let o = p .push .ensures in (
+      some-listed (a .p .reader) (now (a .chunk)) (now (a .room)) (now (a .marks)) (s .pre .0) (s .pre .1) o (w .hand-out .ensures .well),
+      lists-push (a .p) (now (a .room)) (now (a .marks)) _ _ _ (now (a .text)) _ _ _ _ (now (a .sent)) (now (a .status)) _ _
+          (now (a .chunk)) o (t .tally2 .ensures) (u .unit-lines .ensures .0) (w .hand-out .ensures),
     )
 
 pub list-some-spec : {M : Type 1} → statement M

@@ -14,20 +14,28 @@ same-length : tie.Need-same-length
 same-length c = search needs
 
 returns : tie.Need-returns
-returns c = let s = c .before .before .before .before .before .before .before .before .before .before .before in turned-none (c .before .before .before .take-in .ensures) (s .pre .1 .1) (c .if1 .taken) (s .pre .1 .0 .good)
+returns c =
+    let r = c .before .before .before in
+    let g = r .before .before .before .before .before .before .before .before .pre .1 in
+    turned-none (r .take-in .ensures) (g .1) (c .if1 .taken) (g .0 .good)
 
 slice-reshare-prefix-list-chunk : tie.Need-slice-reshare-prefix-list-chunk
 slice-reshare-prefix-list-chunk c = search needs
 
 slice-aggregate-list-chunk : tie.Need-slice-aggregate-list-chunk
-slice-aggregate-list-chunk c = let r = c .before .before .before .before .take-in in sym (length-take-le (r .result) (r .last .0) (r .ensures .within))
+slice-aggregate-list-chunk c =
+    let r = c .before .before .before .before .take-in in
+    sym (length-take-le (r .result) (r .last .0) (r .ensures .within))
 
 list-chunk-requires : tie.Need-list-chunk-requires
 list-chunk-requires c κs =
-    let r = c .before .before .before .before .before .before .before .before .before .take-in in
-    let s = c .before .before .before .before .before .before .before .before .before .before .before .before .before .before .before .before .before in (
-      r .ensures .some (omega (arith, c .before .before .before .before .before .before .if1 .left)),
-      still-ready (s .pre .1 .0) (s .pre .1 .0 .good) (omega (arith, length-take-le (r .result) (r .last .0) (r .ensures .within), r .ensures .within, r .kept .0)) refl refl refl,
+    let i = c .before .before .before .before .before .before in
+    let o = i .before .before .before in
+    let r = o .take-in in
+    let g = o .before .before .before .before .before .before .before .before .pre .1 .0 in
+    let long = length-take-le (r .result) (r .last .0) (r .ensures .within) in (
+      r .ensures .some (omega (arith, i .if1 .left)),
+      still-ready g (g .good) (omega (arith, long, r .ensures .within, r .kept .0)) refl refl refl,
     )
 
 same-length-2 : tie.Need-same-length-2
@@ -44,9 +52,10 @@ same-length-5 c = search needs
 
 returns-2 : tie.Need-returns-2
 returns-2 c =
-    let l = c .before .before .before .before .before .before .before .list-chunk in
-    let r = c .before .before .before .before .before .before .before .before .before .before .before .before .before .before .before .before .before .take-in in
-    turned-some (r .ensures) (c .before .before .before .before .before .before .before .before .before .before .before .before .before .before .before .before .before .before .before .before .before .before .before .before .before .pre .1 .1) (l .ensures .0) (l .ensures .1)
+    let l = c .before .before .before .before .before .before .before in
+    let r = l .before .before .before .before .before .before .before .before .before .before in
+    let k = r .before .before .before .before .before .before .before .before .pre .1 .1 in
+    turned-some (r .take-in .ensures) k (l .list-chunk .ensures .0) (l .list-chunk .ensures .1)
 
 pub turn-spec : {M : Type 1} → statement M
 turn-spec =

@@ -11,27 +11,40 @@ use borrow.Author.Needs.{needs}
 use Rattle.lister.proofs.system.hand_out.Statement.{statement}
 use Rattle.lister.proofs.system.hand_out.Tie as tie
 
-counted : (text : List ℕ) (filled sent sent′ : ℕ) → filled ≤ length text → sent′ ≡ (sent + filled) % wrap → (w : List ℕ) → Sent w sent → Sent (w ++ take filled text) sent′
+counted : (text : List ℕ) (filled sent sent′ : ℕ) → filled ≤ length text → sent′ ≡ (sent + filled) % wrap
+    → (w : List ℕ) → Sent w sent → Sent (w ++ take filled text) sent′
 counted text filled sent sent′ h e w k = passed-more 1 w (take filled text) sent sent′ k (omega (arith, e, length-take-le filled text h))
 
 wrapping-add-u64-requires : tie.Need-wrapping-add-u64-requires
 wrapping-add-u64-requires c κs = search needs
 
 slice-aggregate-write-all : tie.Need-slice-aggregate-write-all
-slice-aggregate-write-all c = let s = c .before .before .before .before in sym (length-take-le (s .args .filled) (now (s .args .text)) (s .pre))
+slice-aggregate-write-all c =
+    let s = c .before .before .before .before in
+    sym (length-take-le (s .args .filled) (now (s .args .text)) (s .pre))
 
 write-all-requires : tie.Need-write-all-requires
 write-all-requires c κs = search needs
 
 returns : tie.Need-returns
 returns c =
+    let p = c .before .before .before .wrapping-add-u64 in
     let s = c .before .before .before .before .before .before in
-    record { handed = counted (s .args .text .now) (s .args .filled) (s .args .sent .now) (c .before .before .before .wrapping-add-u64 .result) (s .pre) (c .before .before .before .wrapping-add-u64 .ensures); well = λ h. absurd (h refl) }
+    let a = s .args in
+    record {
+      handed = counted (now (a .text)) (a .filled) (now (a .sent)) (p .result) (s .pre) (p .ensures);
+      well = λ h. absurd (h refl);
+    }
 
 returns-2 : tie.Need-returns-2
 returns-2 c =
+    let p = c .before .before .before .wrapping-add-u64 in
     let s = c .before .before .before .before .before .before in
-    record { handed = counted (s .args .text .now) (s .args .filled) (s .args .sent .now) (c .before .before .before .wrapping-add-u64 .result) (s .pre) (c .before .before .before .wrapping-add-u64 .ensures); well = λ h. refl }
+    let a = s .args in
+    record {
+      handed = counted (now (a .text)) (a .filled) (now (a .sent)) (p .result) (s .pre) (p .ensures);
+      well = λ _. refl;
+    }
 
 pub hand-out-spec : {M : Type 1} → statement M
 hand-out-spec =

@@ -1,3 +1,4 @@
+use denote.Ref.{now}
 use Prim.Native.Nat.{ℕ, _≤_, zero-le}
 use native.Mathlib.Omega.{arith}
 use mathlib.Core.Path.{_≡_, refl}
@@ -25,7 +26,9 @@ same-length : tie.Need-same-length
 same-length c = search needs
 
 returns : tie.Need-returns
-returns c = let s = c .before .before .before .before .before .before in nothing (c .before .before .before .read .last .1 .0) (s .args .read .now) 2 (inr refl)
+returns c =
+    let r = c .before .before .before in
+    nothing (r .read .last .1 .0) (now (r .before .before .before .args .read)) 2 (inr refl)
 
 count-requires : tie.Need-count-requires
 count-requires c κs = search needs
@@ -34,7 +37,9 @@ same-length-2 : tie.Need-same-length-2
 same-length-2 c = search needs
 
 returns-2 : tie.Need-returns-2
-returns-2 c = let s = c .before .before .before .before .before .before .before .before .before in nothing (c .before .before .before .before .before .before .read .last .1 .0) (s .args .read .now) 1 (inl refl)
+returns-2 c =
+    let r = c .before .before .before .before .before .before in
+    nothing (r .read .last .1 .0) (now (r .before .before .before .args .read)) 1 (inl refl)
 
 wrapping-add-u64-requires : tie.Need-wrapping-add-u64-requires
 wrapping-add-u64-requires c κs = search needs
@@ -44,11 +49,15 @@ same-length-3 c = search needs
 
 returns-3 : tie.Need-returns-3
 returns-3 c =
-    let s = c .before .before .before .before .before .before .before .before .before .before .before in
-    let n = c .before .before .before .count in
+    let n = c .before .before .before in
+    let r = n .before .before .before .before .before in
+    let s = r .before .before .before in
+    let p = c .wrapping-add-u64 in
+    let few = n .count .ensures .0 in
+    let came = take (n .count .result) (r .read .last .1 .0) in
     record {
-      within = n .ensures .0 .0;
-      gave = λ h k. passed-more 0 h (take (n .result) (c .before .before .before .before .before .before .before .before .read .last .1 .0)) (s .args .read .now) (c .wrapping-add-u64 .result) k (omega (arith, c .wrapping-add-u64 .ensures, n .ensures .0));
+      within = few .0;
+      gave = λ h k. passed-more 0 h came (now (s .args .read)) (p .result) k (omega (arith, p .ensures, few));
       some = λ _. s .pre;
       none = λ e. absurd (c .before .before .if2 .left e);
     }

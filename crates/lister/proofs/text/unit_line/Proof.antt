@@ -37,7 +37,9 @@ returns c =
     let o = d .before .before .before .before in
     let i = o .before .before .before .before .before in
     let u = i .before .before .before .before in
-    (puts-more (puts-more (puts-more (puts-more (u .put .ensures) (i .put-decimal .ensures .0)) (o .put2 .ensures)) (d .put-decimal2 .ensures .0)) (e .put3 .ensures), search needs)
+    let index = puts-more (u .put .ensures) (i .put-decimal .ensures .0) in
+    let bytes = puts-more (puts-more index (o .put2 .ensures)) (d .put-decimal2 .ensures .0) in
+    (puts-more bytes (e .put3 .ensures), search needs)
 
 pub unit-line-spec : {M : Type 1} → statement M
 unit-line-spec =

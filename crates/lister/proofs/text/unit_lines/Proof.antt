@@ -35,8 +35,10 @@ loop-less c = search needs
 loop-again : tie.Need-loop-again Inv-loop μ-loop
 loop-again c =
     let u = c .before .before .before .unit-line in
-    let l = c .before .before .before .before .before .before .before in
-    lined-more (l .loop .inv) (c .before .before .before .before .before .before .loop-test .taken) (omega arith) (u .kept .0) (u .ensures .0) (u .ensures .1) (c .wrapping-add-u64 .ensures)
+    let i = c .before .before .before .before .before .before in
+    let l = i .before in
+    let more = c .wrapping-add-u64 .ensures in
+    lined-more (l .loop .inv) (i .loop-test .taken) (omega arith) (u .kept .0) (u .ensures .0) (u .ensures .1) more
 
 same-length : tie.Need-same-length Inv-loop μ-loop
 same-length c = c .before .loop .inv .long
