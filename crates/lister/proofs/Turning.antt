@@ -3,27 +3,35 @@ use Prim.Native.Nat.{ℕ, _≤_}
 use native.Mathlib.Omega.{arith}
 use mathlib.Core.Path.{_≡_, refl, ap, sym, _∙_, subst}
 use mathlib.Core.Logic.{inl, inr}
-use mathlib.Core.List.{List, [], _++_, append-assoc, append-nil}
+use mathlib.Core.List.{List, [], _++_, append-assoc}
 use lib.ListN.{length, take, drop}
-use lib.Seq.{length-take-le, drop-length}
+use lib.Seq.{drop-length}
+use lib.IntN.{ℤ, pos, negsuc}
+use Rattle.io.specs.Counts.{clamped}
 use Rattle.annexb.specs.declared.AnnexBReader.{AnnexBReader}
 use Rattle.annexb.specs.Seen.{new}
 use Rattle.counting.specs.declared.Tally.{Tally}
 use Rattle.counting.specs.Tally.{nothing}
 use Rattle.counting.specs.Listing.{Listing}
 use Rattle.lister.specs.declared.Progress.{Progress}
-use Rattle.lister.specs.System.{Read, Sent, more, ended, writeFailed, KeptOrFailed, TookIn}
+use Rattle.lister.specs.System.{Read, Sent, more, ended, writeFailed, overBy, KeptOrFailed, TookIn}
 use Rattle.lister.specs.Listed.{Stands, All, Lists, Turned, Finishes, Came}
 use Rattle.lister.proofs.Carrying.{part-told}
 
 -- ---- one turn
 
-module _ {chunk : List ℕ} {read n read′ status′ : ℕ} (o : TookIn chunk read n read′ status′) {sent : ℕ} {p : Progress}
+-- an answer that gave nothing of a chunk with room, and did not fail, is 0
+none-came : (got : ℤ) (n : ℕ) → clamped got n ≡ 0 → 1 ≤ n → overBy got ≡ ended → got ≡ pos 0
+none-came (pos k) n e h o = let z : k ≡ 0 = omega arith in ap pos z
+none-came (negsuc k) n e h o = absurd (let z : ⊥ = omega arith in z)
+
+module _ {chunk : List ℕ} {read : ℕ} {got : ℤ} {read′ n sent : ℕ} {p : Progress} (o : TookIn chunk read got read′) (e : n ≡ clamped got (length chunk))
     (k : Stands [] read sent p) where
   -- what a read gave waits
   waits : Stands (take n chunk) read′ sent p
   waits =
-      let all : (k .taken ++ []) ++ take n chunk ≡ k .taken ++ take n chunk = append-assoc (k .taken) [] (take n chunk) in
+      let all : (k .taken ++ []) ++ take (clamped got (length chunk)) chunk ≡ k .taken ++ take n chunk =
+      append-assoc (k .taken) [] (take (clamped got (length chunk)) chunk) ∙ ap (λ (j : ℕ). k .taken ++ take j chunk) (sym e) in
       record {
         taken = k .taken;
         given = k .given;
@@ -34,17 +42,25 @@ module _ {chunk : List ℕ} {read n read′ status′ : ℕ} (o : TookIn chunk r
         was-sent = k .was-sent;
       }
 
-  pub turned-none : n ≡ 0 → p .reader .zeros ≤ 2 → Turned status′ read′ sent p
-  turned-none e g = record { good = g; waiting = take n chunk; stands = waits; none-waits = λ _. ap (λ (j : ℕ). take j chunk) e }
+  pub turned-none : {status : ℕ} → n ≡ 0 → 1 ≤ length chunk → status ≡ overBy got → p .reader .zeros ≤ 2 → Turned status read′ sent p
+  turned-none z h w g =
+      record {
+        good = g;
+        waiting = take n chunk;
+        stands = waits;
+        none-waits = λ _. ap (λ (j : ℕ). take j chunk) z;
+        at-end = λ q. o .nothing h (none-came got (length chunk) (sym e ∙ z) h (sym w ∙ q));
+      }
 
-  pub turned-some : {taken sent′ status″ : ℕ} {p′ : Progress} → All (p′ .reader .zeros) taken (length (take n chunk)) status″
-      → Lists (take n chunk) sent p taken sent′ p′ → Turned status″ read′ sent′ p′
+  pub turned-some : {taken sent′ status : ℕ} {p′ : Progress} → All (p′ .reader .zeros) taken (length (take n chunk)) status
+      → Lists (take n chunk) sent p taken sent′ p′ → Turned status read′ sent′ p′
   turned-some {taken} a l =
       record {
         good = a .good;
         waiting = drop taken (take n chunk);
         stands = l read′ waits;
         none-waits = λ h. ap (λ (j : ℕ). drop j (take n chunk)) (a .all-taken h .1) ∙ drop-length (take n chunk);
+        at-end = λ q. absurd (let z : ⊥ = omega (arith, q, a .all-taken (λ h. let z : ⊥ = omega arith in z) .0) in z);
       }
 
 -- ---- all turns
@@ -97,7 +113,7 @@ module _ {status read sent : ℕ} {p : Progress} (u : Turned status read sent p)
   pub came-whole : {sent′ status′ : ℕ} → status ≡ ended → Finishes sent p sent′ → KeptOrFailed status status′ → Came read sent′ status′
   came-whole e f w =
       let whole = f read (none-left (λ h. let z : ⊥ = omega arith in z)) in
-      record { at-end = λ _. whole; read-failed = λ n h. absurd (n (w h ∙ e)); write-failed = λ _. inl whole }
+      record { at-end = λ _. (u .at-end e, whole); read-failed = λ n h. absurd (n (w h ∙ e)); write-failed = λ _. inl whole }
 
   -- or a call failed
   pub came-part : (status ≡ ended → ⊥) → Came read sent status

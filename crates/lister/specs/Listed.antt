@@ -9,7 +9,7 @@ use Rattle.annexb.specs.Rule.{frame, unitsAtReset}
 use Rattle.counting.specs.Listing.{Listing}
 use Rattle.lister.specs.declared.Progress.{Progress}
 use Rattle.lister.specs.Text.{linesBy, modulo, unitLinesTold, listingTold}
-use Rattle.lister.specs.System.{Read, Sent, more, ended, writeFailed, KeptOrFailed}
+use Rattle.lister.specs.System.{Read, Sent, Ended, more, ended, writeFailed, KeptOrFailed}
 
 -- what a piece of the input is listed with: the reader's zeros, and how many elements the chunk, the room, the marks and the text have;
 -- a line for each mark and the total fit the text
@@ -55,6 +55,7 @@ pub record Turned (status read sent : ℕ) (p : Progress) : Type 0 where
   pub waiting : List ℕ
   pub stands : Stands waiting read sent p
   pub none-waits : (status ≡ writeFailed → ⊥) → waiting ≡ []
+  pub at-end : status ≡ ended → Ended read
 
 -- ALL THAT WAS READ IS LISTED, TO THE TOTAL
 pub record Whole (read sent : ℕ) : Type 0 where
@@ -74,6 +75,6 @@ pub record Part (waiting : List ℕ) (read sent : ℕ) : Type 0 where
 -- WHAT A WHOLE LISTING COMES TO. At the end of the input: the text of the rule's units of all that was read. Where a read failed: the lines of
 -- the units that ended in all that was read, and no total. Where a write failed, at whatever text: what was handed to it was right.
 pub record Came (read sent status : ℕ) : Type 0 where
-  pub at-end : status ≡ ended → Whole read sent
+  pub at-end : status ≡ ended → Ended read × Whole read sent
   pub read-failed : (status ≡ ended → ⊥) → (status ≡ writeFailed → ⊥) → Part [] read sent
   pub write-failed : status ≡ writeFailed → (Whole read sent) ⊎ ((waiting : List ℕ) × Part waiting read sent)

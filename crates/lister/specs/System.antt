@@ -6,9 +6,10 @@
 use Prim.Native.Nat.{ℕ, _+_, _%_, _≤_}
 use native.Mathlib.Omega.{arith}
 use mathlib.Core.Path.{_≡_, refl}
-use mathlib.Core.Logic.{_⊎_}
 use mathlib.Core.List.{List, [], _++_}
 use lib.ListN.{length, take, length-append}
+use lib.IntN.{ℤ, pos, negsuc}
+use Rattle.io.specs.Counts.{clamped}
 use Rattle.counting.specs.Tally.{wrap}
 
 pub Passed : ℕ → List ℕ → ℕ → Type 0
@@ -29,6 +30,15 @@ Read h n = Passed 0 h n
 abbrev pub Sent : List ℕ → ℕ → Type 0
 Sent w n = Passed 1 w n
 
+-- when the count of bytes read was n, a read gave nothing: shut as `Passed` is
+pub Ended : ℕ → Type 0
+Ended n = Unit
+
+-- cited by the proof of `take_in` alone
+pub has-ended : (n : ℕ) → Ended n
+unfolding Ended
+has-ended n = tt
+
 -- what the calls came to: more may come; a read gave nothing, so the input has ended; a read failed; a write failed
 abbrev pub more : ℕ
 more = 0
@@ -42,12 +52,15 @@ readFailed = 2
 abbrev pub writeFailed : ℕ
 writeFailed = 3
 
--- THE CONTRACT OF A READ: what it gave stands at the front of the chunk; more may come exactly if it gave something
-pub record TookIn (chunk : List ℕ) (read count read′ status′ : ℕ) : Type 0 where
-  pub within : count ≤ length chunk
-  pub gave : (h : List ℕ) → Read h read → Read (h ++ take count chunk) read′
-  pub some : 1 ≤ count → status′ ≡ more
-  pub none : count ≡ 0 → (status′ ≡ ended) ⊎ (status′ ≡ readFailed)
+-- what a read that gave nothing came to, by its answer
+abbrev pub overBy : ℤ → ℕ
+overBy (pos k) = ended
+overBy (negsuc k) = readFailed
+
+-- THE CONTRACT OF A READ, by its answer: what it gave stands at the front of the chunk; where it did not fail and gave nothing, the input has ended
+pub record TookIn (chunk : List ℕ) (read : ℕ) (got : ℤ) (read′ : ℕ) : Type 0 where
+  pub gave : (h : List ℕ) → Read h read → Read (h ++ take (clamped got (length chunk)) chunk) read′
+  pub nothing : 1 ≤ length chunk → got ≡ pos 0 → Ended read′
 
 -- only a handing out says that a write failed, and it says nothing else
 abbrev pub KeptOrFailed : ℕ → ℕ → Type 0

@@ -2,8 +2,8 @@
 // Memory is constant whatever the stream's length. Lengths and counts are u64: a stream of 2^64 bytes is out of reach.
 //
 // What the contracts carry is where a listing stands (specs/Listed.antt): all that was read so far, all that was handed to writing, and
-// what waits between. `read` and `sent` count the one and the other, and `status` says what the operating system's calls came to: system.rt
-// alone writes them.
+// what waits between. `read` and `sent` count the one and the other, which system.rt alone writes; `status` says what the operating system's
+// calls came to.
 mod system;
 mod text;
 
@@ -116,11 +116,13 @@ fn turn(
 ) -> Progress
     requires { ⌜ now status ≡ more ⌝ }
     requires { ⌜ Ready (p .reader .zeros) (length (now chunk)) (length (now room)) (length (now marks)) (length (now text)) ⌝ }
-    requires { ⌜ Stands [] (now read) (now sent) p ⌝ }
+    requires { ⌜ (1 ≤ length (now chunk)) × Stands [] (now read) (now sent) p ⌝ }
     ensures { λ r. ⌜ Turned (now (status .exit)) (now (read .exit)) (now (sent .exit)) r ⌝ }
 {
-    let n = system::take_in(chunk, read, status);
+    let got = system::take_in(chunk, read);
+    let n = io::count(got, chunk);
     if n == 0 {
+        *status = system::over(got);
         return p;
     }
     let piece = list_chunk(p, &chunk[..n], room, marks, text, sent, status);
@@ -162,7 +164,7 @@ fn list_all(
 )
     requires { ⌜ now status ≡ more ⌝ }
     requires { ⌜ Ready 0 (length (now chunk)) (length (now room)) (length (now marks)) (length (now text)) ⌝ }
-    requires { ⌜ Read [] (now read) × Sent [] (now sent) ⌝ }
+    requires { ⌜ (1 ≤ length (now chunk)) × Read [] (now read) × Sent [] (now sent) ⌝ }
     ensures { λ _. ⌜ Came (now (read .exit)) (now (sent .exit)) (now (status .exit)) ⌝ }
 {
     let mut progress = Progress {

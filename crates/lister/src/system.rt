@@ -4,7 +4,7 @@
 ghost use mathlib.Core.Path.{_≡_};
 ghost use Prim.Native.Nat.{_≤_};
 ghost use lib.ListN.{length};
-ghost use Rattle.lister.specs.System.{more, TookIn, HandedOut};
+ghost use Rattle.lister.specs.System.{overBy, TookIn, HandedOut};
 use libc::STDERR_FILENO;
 use libc::STDIN_FILENO;
 use libc::STDOUT_FILENO;
@@ -17,23 +17,21 @@ const READ_FAILED: u8 = 2;
 
 const WRITE_FAILED: u8 = 3;
 
-// Reads once from standard input: answers how many bytes came, at the front of the chunk.
-pub(crate) fn take_in(chunk: &mut [u8], read: &mut u64, status: &mut u8) -> usize
-    requires { ⌜ now status ≡ more ⌝ }
-    ensures { λ r. ⌜ TookIn (now (chunk .exit)) (now (read .entry)) r (now (read .exit)) (now (status .exit)) ⌝ }
+// Reads once from standard input, and answers what the read did: how many bytes came, at the front of the chunk, or less than 0 if it failed.
+pub(crate) fn take_in(chunk: &mut [u8], read: &mut u64) -> isize
+    ensures { λ r. ⌜ TookIn (now (chunk .exit)) (now (read .entry)) r (now (read .exit)) ⌝ }
 {
     let got = libc::read(STDIN_FILENO, chunk);
-    if got < 0 {
-        *status = READ_FAILED;
-        return 0;
-    }
     let n = io::count(got, chunk);
-    if n == 0 {
-        *status = END;
-        return 0;
-    }
     *read = std::num::wrapping_add_u64(*read, n as u64);
-    n
+    got
+}
+
+// Why a read gave nothing.
+pub(crate) fn over(got: isize) -> u8
+    ensures { λ r. ⌜ r ≡ overBy got ⌝ }
+{
+    if got < 0 { READ_FAILED } else { END }
 }
 
 // Hands the first `filled` bytes of the text to standard output.

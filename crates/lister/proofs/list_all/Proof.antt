@@ -25,7 +25,7 @@ loop-holds : tie.Need-loop-holds Inv-loop μ-loop
 loop-holds c =
     let s = c .before .before .before .before .before .before in
     let a = s .args in
-    going-first (now (a .chunk)) (now (a .room)) (now (a .marks)) (now (a .text)) (s .pre .0) (s .pre .1 .1 .0) (s .pre .1 .1 .1)
+    going-first (now (a .chunk)) (now (a .room)) (now (a .marks)) (now (a .text)) (s .pre .0) (s .pre .1 .1 .1) (s .pre .1 .1 .2)
     (c .before .new .ensures) (c .new2 .ensures)
 
 turn-requires : tie.Need-turn-requires Inv-loop μ-loop
@@ -33,7 +33,7 @@ turn-requires c κs =
     let l = c .before .before .before .before .before .before .before .before in
     let v = l .loop .inv in
     let g = l .before .before .before .before .before .before .before .pre .1 .0 in
-    (v .well, (still-ready g (v .good) (omega (arith, v .chunk-long)) (v .room-long) (v .marks-long) (v .text-long), v .stands))
+    (v .well, (still-ready g (v .good) (omega (arith, v .chunk-long)) (v .room-long) (v .marks-long) (v .text-long), (omega (arith, v .chunk-long, l .before .before .before .before .before .before .before .pre .1 .1 .0), v .stands)))
 
 finish-requires : tie.Need-finish-requires Inv-loop μ-loop
 finish-requires c κs =
