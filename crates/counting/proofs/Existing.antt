@@ -7,7 +7,7 @@ use lib.Dec.{ltb}
 use lib.ListN.{length, take, drop, length-drop, take-append-drop}
 use borrow.Author.Tests.{le-ltb}
 use Rattle.desk.specs.Numbers.{most}
-use Rattle.desk.specs.Push.{Answer, Seen}
+use Rattle.desk.specs.Push.{Seen}
 use Rattle.desk.specs.Room.{written}
 use Rattle.desk.proofs.Entering.{entry-done}
 use Rattle.desk.proofs.Lists.{trail-few}
@@ -30,13 +30,20 @@ pub record Exists (h : List ℕ) : Type 0 where
   pub told : List ℕ
   pub listing : Listing h state given ends tally told
 
+-- a listing leaves no bad state
+good : {h : List ℕ} (x : Exists h) → x .state .zeros ≤ 2
+good {h} x =
+    let reached = ap (λ (v : Seen AnnexBReader). v .state) (calls-rule (listing-calls (x .listing)) .open-span) in
+    subst (λ (r : AnnexBReader). r .zeros ≤ 2) reached (trail-few (frame h .rest))
+
 -- one push and its tally
 push-on : {h : List ℕ} → Exists h → (b : ℕ) (chunk : List ℕ) → length (b ∷ chunk) ≤ most → (n : ℕ) × (1 ≤ n) × Exists (h ++ take n (b ∷ chunk))
 push-on {h} x b chunk few =
     let s = x .state in
     let a = pushAnswer s (b ∷ chunk) 3 1 in
-    let good : s .zeros ≤ 2 = subst (λ (r : AnnexBReader). r .zeros ≤ 2) (ap (λ (v : Seen AnnexBReader). v .state) (calls-rule (listing-calls (x .listing)) .open-span)) (trail-few (frame h .rest)) in
-    let passes : entering s (length (b ∷ chunk)) 3 1 ≡ 0 = entry-done (length (b ∷ chunk) ∷ 3 ∷ 1 ∷ []) (ltb 2 (s .zeros)) (few, (omega arith, (omega arith, tt))) (le-ltb 2 (s .zeros) good) in
+    let passes : entering s (length (b ∷ chunk)) 3 1 ≡ 0 =
+    entry-done (length (b ∷ chunk) ∷ 3 ∷ 1 ∷ []) (ltb 2 (s .zeros)) (few, (omega arith, (omega arith, tt))) (le-ltb 2 (s .zeros) (good x)) in
+    let room = written (0 ∷ 0 ∷ 0 ∷ []) (a .bytes) in
     let marks = written (0 ∷ []) (a .marks) in
     let r : Pushed = record { number = a .number; taken = a .taken; written = length (a .bytes); marked = length (a .marks); state = a .after } in
     let first = gap 0 (x .tally .bytes) in
@@ -50,7 +57,7 @@ push-on {h} x b chunk few =
         tally = _;
         told = _;
         listing =
-            Listing.pushed (x .listing) (b ∷ chunk) (0 ∷ 0 ∷ 0 ∷ []) (0 ∷ []) (written (0 ∷ 0 ∷ 0 ∷ []) (a .bytes)) marks (written marks (lengths first ends)) r
+            Listing.pushed (x .listing) (b ∷ chunk) (0 ∷ 0 ∷ 0 ∷ []) (0 ∷ []) room marks (written marks (lengths first ends)) r
             (record { units = (x .tally .units + length ends) % wrap; bytes = gap (r .written) (lastOf first ends) })
             (record { number-is = refl; taken-is = refl; wrote-is = refl; marked-is = refl; state-is = refl; room = refl; mark-room = refl })
             (record { lengths-are = refl; units-is = refl; bytes-is = refl });

@@ -7,21 +7,21 @@ use lib.ListN.{length}
 use Rattle.counting.proofs.Existing.{Exists, every-stream}
 use Rattle.lister.specs.declared.Progress.{Progress}
 use Rattle.lister.specs.Text.{linesBy, modulo}
-use Rattle.lister.specs.System.{Passed, Read, passed-none, passed-more}
+use Rattle.lister.specs.System.{Through, Read, through-none, through-more}
 use Rattle.lister.specs.Listed.{Stands}
 
 -- the bytes l have gone through the descriptor fd at once
-at-once : (fd : ℕ) (l : List ℕ) → Passed fd l (length l)
-at-once fd l = passed-more fd [] l 0 (length l) (passed-none fd) (omega arith)
+at-once : (fd : ℕ) (l : List ℕ) → Through fd l (length l)
+at-once fd l = through-more fd [] l 0 (length l) (through-none fd) (omega arith)
 
-pub record Listed (h : List ℕ) : Type 0 where
+pub record Reached (h : List ℕ) : Type 0 where
   pub read : ℕ
   pub sent : ℕ
   pub progress : Progress
   pub stands : Stands [] read sent progress
   pub all : stands .taken ≡ h
 
-pub every-listed : (h : List ℕ) → Listed h
+pub every-listed : (h : List ℕ) → Reached h
 every-listed h =
     let x : Exists h = every-stream h in
     record {

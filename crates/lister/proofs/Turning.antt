@@ -25,8 +25,8 @@ none-came : (got : ℤ) (n : ℕ) → clamped got n ≡ 0 → 1 ≤ n → overBy
 none-came (pos k) n e h o = let z : k ≡ 0 = omega arith in ap pos z
 none-came (negsuc k) n e h o = absurd (let z : ⊥ = omega arith in z)
 
-module _ {chunk : List ℕ} {read : ℕ} {got : ℤ} {read′ n sent : ℕ} {p : Progress} (o : TookIn chunk read got read′) (e : n ≡ clamped got (length chunk))
-    (k : Stands [] read sent p) where
+module _ {chunk : List ℕ} {read : ℕ} {got : ℤ} {read′ n sent : ℕ} {p : Progress} (o : TookIn chunk read got read′)
+    (e : n ≡ clamped got (length chunk)) (k : Stands [] read sent p) where
   -- what a read gave waits
   waits : Stands (take n chunk) read′ sent p
   waits =

@@ -1,6 +1,6 @@
 -- WHAT THE OPERATING SYSTEM DID. No contract can say what a read put into a buffer or what a write did with one: that is what is assumed.
--- `Passed fd l n` stands for it: the bytes l have gone through the descriptor fd in all, in order. It is shut: a proof has it only from the
--- contract of the function that reads (`take_in`) or hands out (`hand_out`), whose proofs alone cite `passed-more`, and at the start.
+-- `Through fd l n` stands for it: the bytes l have gone through the descriptor fd in all, in order. It is shut: a proof has it only from the
+-- contract of the function that reads (`take_in`) or hands out (`hand_out`), whose proofs alone cite `through-more`, and at the start.
 -- Each such call counts its bytes into n, modulo 2^64, which is lent from call to call: what is said of an earlier count is not said of a
 -- later one, so that nothing read or handed out is forgotten or counted twice.
 use Prim.Native.Nat.{ℕ, _+_, _%_, _≤_}
@@ -12,25 +12,25 @@ use lib.IntN.{ℤ, pos, negsuc}
 use Rattle.io.specs.Counts.{clamped}
 use Rattle.counting.specs.Tally.{wrap}
 
-pub Passed : ℕ → List ℕ → ℕ → Type 0
-Passed fd l n = n % wrap ≡ length l % wrap
+pub Through : ℕ → List ℕ → ℕ → Type 0
+Through fd l n = n % wrap ≡ length l % wrap
 
-pub passed-none : (fd : ℕ) → Passed fd [] 0
-unfolding Passed
-passed-none fd = refl
+pub through-none : (fd : ℕ) → Through fd [] 0
+unfolding Through
+through-none fd = refl
 
-pub passed-more : (fd : ℕ) (l b : List ℕ) (n n′ : ℕ) → Passed fd l n → n′ % wrap ≡ (n + length b) % wrap → Passed fd (l ++ b) n′
-unfolding Passed
-passed-more fd l b n n′ k e = simp length-append (omega arith)
+pub through-more : (fd : ℕ) (l b : List ℕ) (n n′ : ℕ) → Through fd l n → n′ % wrap ≡ (n + length b) % wrap → Through fd (l ++ b) n′
+unfolding Through
+through-more fd l b n n′ k e = simp length-append (omega arith)
 
 -- reading gave these bytes; this text was handed to writing
 abbrev pub Read : List ℕ → ℕ → Type 0
-Read h n = Passed 0 h n
+Read h n = Through 0 h n
 
 abbrev pub Sent : List ℕ → ℕ → Type 0
-Sent w n = Passed 1 w n
+Sent w n = Through 1 w n
 
--- when the count of bytes read was n, a read gave nothing: shut as `Passed` is
+-- when the count of bytes read was n, a read gave nothing: shut as `Through` is
 pub Ended : ℕ → Type 0
 Ended n = Unit
 

@@ -32,8 +32,9 @@ turn-requires : tie.Need-turn-requires Inv-loop μ-loop
 turn-requires c κs =
     let l = c .before .before .before .before .before .before .before .before in
     let v = l .loop .inv in
-    let g = l .before .before .before .before .before .before .before .pre .1 .0 in
-    (v .well, (still-ready g (v .good) (omega (arith, v .chunk-long)) (v .room-long) (v .marks-long) (v .text-long), (omega (arith, v .chunk-long, l .before .before .before .before .before .before .before .pre .1 .1 .0), v .stands)))
+    let g = l .before .before .before .before .before .before .before .pre .1 in
+    let ready = still-ready (g .0) (v .good) (omega (arith, v .chunk-long)) (v .room-long) (v .marks-long) (v .text-long) in
+    (v .well, (ready, (omega (arith, v .chunk-long, g .1 .0), v .stands)))
 
 finish-requires : tie.Need-finish-requires Inv-loop μ-loop
 finish-requires c κs =
@@ -63,14 +64,16 @@ same-length-3 c =
     let f = c .before .before .before .before .before .before in
     let i = f .before .before .before .before .before .before in
     let t = i .before .before .before .before .before .before .before .before .before .before in
-    f .finish .kept .1 .1 .0 ∙ t .turn .kept .1 .1 .1 .0 ∙ t .before .before .before .before .before .before .before .before .before .loop .inv .marks-long
+    let v = t .before .before .before .before .before .before .before .before .before .loop .inv in
+    f .finish .kept .1 .1 .0 ∙ t .turn .kept .1 .1 .1 .0 ∙ v .marks-long
 
 same-length-4 : tie.Need-same-length-4 Inv-loop μ-loop
 same-length-4 c =
     let f = c .before .before .before .before .before .before in
     let i = f .before .before .before .before .before .before in
     let t = i .before .before .before .before .before .before .before .before .before .before in
-    f .finish .kept .1 .1 .1 .0 ∙ t .turn .kept .1 .1 .1 .1 .0 ∙ t .before .before .before .before .before .before .before .before .before .loop .inv .text-long
+    let v = t .before .before .before .before .before .before .before .before .before .loop .inv in
+    f .finish .kept .1 .1 .1 .0 ∙ t .turn .kept .1 .1 .1 .1 .0 ∙ v .text-long
 
 returns : tie.Need-returns Inv-loop μ-loop
 returns c =

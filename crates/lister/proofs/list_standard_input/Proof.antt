@@ -1,4 +1,4 @@
-use Rattle.lister.specs.System.{passed-none}
+use Rattle.lister.specs.System.{through-none}
 use mathlib.Core.Path.{refl}
 use borrow.Author.Needs.{needs}
 use Rattle.lister.proofs.list_standard_input.Statement.{statement}
@@ -29,7 +29,7 @@ slice-aggregate-list-all-4 : tie.Need-slice-aggregate-list-all-4
 slice-aggregate-list-all-4 c = search needs
 
 list-all-requires : tie.Need-list-all-requires
-list-all-requires c κs = (refl, (search needs, (search needs, passed-none 0, passed-none 1)))
+list-all-requires c κs = (refl, (search needs, (search needs, through-none 0, through-none 1)))
 
 complain-requires : tie.Need-complain-requires
 complain-requires c κs = search needs

@@ -32,7 +32,8 @@ returns c =
     let g = o .before .before .before .before .before .before .before .pre .1 in
     let held : toZ w64 (ofZ w64 (r .result)) ≡ r .result = toZ-ofZ w64 (r .result) (search needs) in
     let came = n .ensures .1 ∙ ap (λ (z : ℤ). clamped z (length (r .last .0))) held in
-    turned-none (r .ensures) came (g .1 .1) (c .before .if1 .taken) (omega (arith, g .1 .0, r .kept .0)) (c .over .ensures ∙ ap overBy held) (g .0 .good)
+    let why = c .over .ensures ∙ ap overBy held in
+    turned-none (r .ensures) came (g .1 .1) (c .before .if1 .taken) (omega (arith, g .1 .0, r .kept .0)) why (g .0 .good)
 
 slice-reshare-prefix-list-chunk : tie.Need-slice-reshare-prefix-list-chunk
 slice-reshare-prefix-list-chunk c = search needs

@@ -11,7 +11,7 @@ use mir.Val.{toZ, ofZ}
 use mir.ValLaws.{toZ-ofZ}
 use Rattle.io.specs.Counts.{clamped}
 use Rattle.counting.specs.Tally.{wrap}
-use Rattle.lister.specs.System.{TookIn, passed-more, has-ended}
+use Rattle.lister.specs.System.{TookIn, through-more, has-ended}
 use borrow.Author.Needs.{needs}
 use Rattle.lister.proofs.system.take_in.Statement.{statement}
 use Rattle.lister.proofs.system.take_in.Tie as tie
@@ -21,7 +21,7 @@ took : (chunk : List ℕ) (read : ℕ) (got : ℤ) (read′ n : ℕ) → n ≡ c
 took chunk read got read′ n e h c =
     let count = clamped got (length chunk) in
     let long : length (take count chunk) ≡ n = length-take-le count chunk (omega (arith, e, h)) ∙ sym e in
-    record { gave = λ l k. passed-more 0 l (take count chunk) read read′ k (omega (arith, c, long)); nothing = λ _ _. has-ended read′ }
+    record { gave = λ l k. through-more 0 l (take count chunk) read read′ k (omega (arith, c, long)); nothing = λ _ _. has-ended read′ }
 
 read-requires : tie.Need-read-requires
 read-requires c κs = search needs
@@ -42,7 +42,8 @@ returns c =
     let a = c .before .before .before .before .before .before .before .before .before .args in
     let p = c .wrapping-add-u64 in
     let held : toZ w64 (ofZ w64 (r .result)) ≡ r .result = toZ-ofZ w64 (r .result) (search needs) in
-    rw held (took (r .last .1 .0) (now (a .read)) (r .result) (p .result) (n .result) (n .ensures .1 ∙ ap (λ (z : ℤ). clamped z (length (r .last .1 .0))) held) (n .ensures .0 .0) (p .ensures))
+    let count = n .ensures .1 ∙ ap (λ (z : ℤ). clamped z (length (r .last .1 .0))) held in
+    rw held (took (r .last .1 .0) (now (a .read)) (r .result) (p .result) (n .result) count (n .ensures .0 .0) (p .ensures))
 
 pub take-in-spec : {M : Type 1} → statement M
 take-in-spec =
