@@ -32,9 +32,13 @@ turn-requires : tie.Need-turn-requires Inv-loop μ-loop
 turn-requires c κs =
     let l = c .before .before .before .before .before .before .before .before in
     let v = l .loop .inv in
-    let g = l .before .before .before .before .before .before .before .pre .1 in
-    let ready = still-ready (g .0) (v .good) (omega (arith, v .chunk-long)) (v .room-long) (v .marks-long) (v .text-long) in
-    (v .well, (ready, (omega (arith, v .chunk-long, g .1 .0), v .stands)))
+    let g = l .before .before .before .before .before .before .before .pre .1 in (
+      v .well,
+      (
+        still-ready (g .0) (v .good) (omega (arith, v .chunk-long)) (v .room-long) (v .marks-long) (v .text-long),
+        (omega (arith, v .chunk-long, g .1 .0), v .stands),
+      ),
+    )
 
 finish-requires : tie.Need-finish-requires Inv-loop μ-loop
 finish-requires c κs =
