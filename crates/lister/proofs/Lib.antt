@@ -5,6 +5,7 @@ pub mod Digits
 pub mod Exact
 pub mod Filling
 pub mod Lines
+pub mod Sheets
 pub mod Standing
 pub mod Taking
 pub mod Turning

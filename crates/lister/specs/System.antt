@@ -1,6 +1,7 @@
 -- WHAT THE OPERATING SYSTEM DID. No contract can say what a read put into a buffer or what a write did with one: that is what is assumed.
--- `Through fd l n` stands for it: the bytes l have gone through the descriptor fd in all, in order. It is shut: a proof has it only from the
--- contract of the function that reads (`take_in`) or hands out (`hand_out`), whose proofs alone cite `through-more`, and at the start.
+-- `Through fd l n` stands for it: the bytes l have gone through the descriptor fd in all, in order. It is shut: the program's proofs have it
+-- only from the contract of the function that reads (`take_in`) or hands out (`hand_out`), whose proofs alone cite `through-more`, and at the
+-- start. (proofs/Standing cites it too, to show that there is a listing of every stream.)
 -- Each such call counts its bytes into n, modulo 2^64, which is lent from call to call: what is said of an earlier count is not said of a
 -- later one, so that nothing read or handed out is forgotten or counted twice.
 use Prim.Native.Nat.{ℕ, _+_, _%_, _≤_}
