@@ -54,13 +54,15 @@ joined-long us vs = ap length (joined-append us vs) ∙ length-append (joined us
 
 module _ {us : List (List ℕ)} {o : ℕ} {t : Tally} {told : List ℕ} (c : Counted us o t told) (vs : List (List ℕ)) (o′ p wrote : ℕ) where
   -- a call that gave `wrote` bytes behind p, and ended the units vs
-  counted-more : (ms marks marks″ : List ℕ) (marked : ℕ) (t′ : Tally) → take marked marks ≡ ms → marked ≡ length ms → p ≡ length (joined us) + o → length (joined (us ++ vs)) + o′ ≡ p + wrote
-      → endsFrom 0 (us ++ vs) ≡ endsFrom 0 us ++ shifted p ms → Tallied t marks marked wrote marks″ t′ → Counted (us ++ vs) o′ t′ (told ++ take marked marks″)
+  counted-more : (ms marks marks″ : List ℕ) (marked : ℕ) (t′ : Tally) → take marked marks ≡ ms → marked ≡ length ms → p ≡ length (joined us) + o
+      → length (joined (us ++ vs)) + o′ ≡ p + wrote → endsFrom 0 (us ++ vs) ≡ endsFrom 0 us ++ shifted p ms
+      → Tallied t marks marked wrote marks″ t′ → Counted (us ++ vs) o′ t′ (told ++ take marked marks″)
   counted-more ms marks marks″ marked t′ em el ep eb ee d =
       let s = gap 0 (t .bytes) in
       let e = length (joined us) in
       let own : endsFrom e vs ≡ shifted p ms =
-      ap (λ (n : ℕ). endsFrom n vs) (sym (zero-add e)) ∙ append-cancel-left (endsFrom 0 us) (endsFrom (0 + e) vs) (shifted p ms) (sym (ends-append 0 us vs) ∙ ee) in
+      ap (λ (n : ℕ). endsFrom n vs) (sym (zero-add e))
+      ∙ append-cancel-left (endsFrom 0 us) (endsFrom (0 + e) vs) (shifted p ms) (sym (ends-append 0 us vs) ∙ ee) in
       let tell = told-units vs e p s ms own (start-is e o p (t .bytes) ep (c .bytes-told)) in
       let many : length ms ≡ length vs = sym (lengths-long s ms) ∙ ap length (tell .0) ∙ length-map vs (λ (u : List ℕ). length u % wrap) in
       let front-is : take marked marks″ ≡ lengths s ms =
@@ -70,12 +72,15 @@ module _ {us : List (List ℕ)} {o : ℕ} {t : Tally} {told : List ℕ} (c : Cou
       record {
         lengths-told = ap₂ _++_ (c .lengths-told) (front-is ∙ tell .0) ∙ sym (map-append (λ (u : List ℕ). length u % wrap) us vs);
         units-told = d .units-is ∙ ap₂ (λ (a b : ℕ). (a + b) % wrap) (c .units-told) (ap length em ∙ many) ∙ omega (arith, sum);
-        bytes-told = d .bytes-is ∙ ap (λ (l : List ℕ). gap wrote (lastOf s l)) em ∙ gap-is wrote (lastOf s ms) (e + length (joined vs)) p o′ (tell .1) (omega (arith, all, eb));
+        bytes-told =
+            d .bytes-is
+            ∙ ap (λ (l : List ℕ). gap wrote (lastOf s l)) em
+            ∙ gap-is wrote (lastOf s ms) (e + length (joined vs)) p o′ (tell .1) (omega (arith, all, eb));
       }
 
 -- ---- a listing
 
-listing-calls : {h : List ℕ} {s : AnnexBReader} {g e : List ℕ} {t : Tally} {told : List ℕ} → Listing h s g e t told → Calls [] h s g e
+pub listing-calls : {h : List ℕ} {s : AnnexBReader} {g e : List ℕ} {t : Tally} {told : List ℕ} → Listing h s g e t told → Calls [] h s g e
 listing-calls Listing.none-yet = Calls.none-yet
 listing-calls (Listing.pushed l chunk room marks room′ marks′ marks″ r t′ o d) = Calls.pushed (listing-calls l) chunk room marks room′ marks′ r o
 
@@ -90,7 +95,8 @@ ends-are : {h : List ℕ} {s : AnnexBReader} {g e : List ℕ} → Calls [] h s g
 ends-are c = ap (λ (v : Seen AnnexBReader). v .ends) (sym (calls-rule c .open-span))
 
 -- AFTER EACH PUSH: THE LENGTHS OF THE UNITS THAT THE RULE HAS CLOSED, AND THEIR NUMBER
-pub listing-rule : {h : List ℕ} {s : AnnexBReader} {g e : List ℕ} {t : Tally} {told : List ℕ} → Listing h s g e t told → Counted (frame h .closed) (openBytes h) t told
+pub listing-rule : {h : List ℕ} {s : AnnexBReader} {g e : List ℕ} {t : Tally} {told : List ℕ} → Listing h s g e t told
+    → Counted (frame h .closed) (openBytes h) t told
 listing-rule Listing.none-yet = record { lengths-told = refl; units-told = refl; bytes-told = refl }
 listing-rule (Listing.pushed {h} {s} {g} {e} {t} {told} l chunk room marks room′ marks′ marks″ r t′ o d) =
     let c = listing-calls l in
@@ -105,20 +111,26 @@ listing-rule (Listing.pushed {h} {s} {g} {e} {t} {told} l chunk room marks room�
     let at-ends : endsFrom 0 (frame h′ .closed) ≡ endsFrom 0 (f .closed) ++ shifted (length g) (take (r .marked) marks′) =
     sym (ends-are c′) ∙ ap (λ (l : List ℕ). l ++ shifted (length g) (take (r .marked) marks′)) (ends-are c) in
     subst⁻¹ (λ (us : List (List ℕ)). Counted us (openBytes h′) t′ (told ++ take (r .marked) marks″)) closed
-    (counted-more (listing-rule l) vs (openBytes h′) (length g) (r .written) (take (r .marked) marks′) marks′ marks″ (r .marked) t′ refl (o .marked-is ∙ sym (ap length (gave-marks o))) (given-long c)
+    (counted-more (listing-rule l) vs (openBytes h′) (length g) (r .written) (take (r .marked) marks′) marks′ marks″ (r .marked) t′
+    refl (o .marked-is ∙ sym (ap length (gave-marks o))) (given-long c)
     (ap (λ (us : List (List ℕ)). length (joined us) + openBytes h′) (sym closed) ∙ all) (ap (endsFrom 0) (sym closed) ∙ at-ends) d)
 
 -- AFTER A RESET AT THE END: ALL UNITS OF THE RULE
 pub listing-reset : {h : List ℕ} {s : AnnexBReader} {g e : List ℕ} {t : Tally} {told : List ℕ} → Listing h s g e t told
     → (room marks room′ marks′ marks″ : List ℕ) (r : Pushed) (t′ : Tally)
-    → Gave (resetAnswer s (length room) (length marks)) room marks room′ marks′ r → r .number ≡ 0 → Tallied t marks′ (r .marked) (r .written) marks″ t′
+    → Gave (resetAnswer s (length room) (length marks)) room marks room′ marks′ r → r .number ≡ 0
+    → Tallied t marks′ (r .marked) (r .written) marks″ t′
     → Counted (unitsAtReset h) 0 t′ (told ++ take (r .marked) marks″)
 listing-reset {h} {s} {g} {e} {t} {told} l room marks room′ marks′ marks″ r t′ o z d =
     let c = listing-calls l in
     let f = frame h in
     let w = calls-rule (Calls.reset-done c room marks room′ marks′ r o z) .closed-spans .0 in
     let all : length (joined (unitsAtReset h)) + 0 ≡ length g + r .written =
-    add-zero _ ∙ ap length (sym (w .bytes-are)) ∙ length-append g (take (r .written) room′) ∙ ap (λ (n : ℕ). length g + n) (ap length (gave-bytes o) ∙ sym (o .wrote-is)) in
+    add-zero _
+    ∙ ap length (sym (w .bytes-are))
+    ∙ length-append g (take (r .written) room′)
+    ∙ ap (λ (n : ℕ). length g + n) (ap length (gave-bytes o) ∙ sym (o .wrote-is)) in
     let at-ends : endsFrom 0 (unitsAtReset h) ≡ endsFrom 0 (f .closed) ++ shifted (length g) (take (r .marked) marks′) =
     sym (w .ends-are) ∙ ap (λ (l : List ℕ). l ++ shifted (length g) (take (r .marked) marks′)) (ends-are c) in
-    counted-more (listing-rule l) (cond (f .inUnit) (f .rest ∷ []) []) 0 (length g) (r .written) (take (r .marked) marks′) marks′ marks″ (r .marked) t′ refl (o .marked-is ∙ sym (ap length (gave-marks o))) (given-long c) all at-ends d
+    counted-more (listing-rule l) (cond (f .inUnit) (f .rest ∷ []) []) 0 (length g) (r .written) (take (r .marked) marks′) marks′ marks″ (r .marked)
+    t′ refl (o .marked-is ∙ sym (ap length (gave-marks o))) (given-long c) all at-ends d

@@ -10,7 +10,7 @@ use lib.Seq.{length-take-le, take-suc, drop-cons, set-at, getD-at, append-snoc}
 use Rattle.desk.specs.Room.{written}
 use Rattle.desk.proofs.Room.{length-written}
 use Rattle.counting.specs.declared.Tally.{Tally}
-use Rattle.counting.specs.Tally.{wrap, gap, lengths, lastOf, Tallied}
+use Rattle.counting.specs.Tally.{wrap, gap, lengths, lastOf, Distances, Tallied}
 
 pub lengths-long : (s : ℕ) (l : List ℕ) → length (lengths s l) ≡ length l
 lengths-long s [] = refl
@@ -38,7 +38,8 @@ pub record Passed (marks₀ : List ℕ) (count start : ℕ) (marks : List ℕ) (
 pub passed-none : (marks : List ℕ) (count start : ℕ) → Passed marks count start marks start 0
 passed-none marks count start = record { few = zero-le; long = refl; is = refl; last-is = refl }
 
-module _ {marks₀ : List ℕ} {count start : ℕ} {marks : List ℕ} {last i : ℕ} (p : Passed marks₀ count start marks last i) (fit : count ≤ length marks₀) where
+module _ {marks₀ : List ℕ} {count start : ℕ} {marks : List ℕ} {last i : ℕ} (p : Passed marks₀ count start marks last i)
+    (fit : count ≤ length marks₀) where
   front-long : i ≤ length marks₀ → length (lengths start (take i marks₀)) ≡ i
   front-long h = lengths-long start (take i marks₀) ∙ length-take-le i marks₀ h
 
@@ -64,10 +65,12 @@ module _ {marks₀ : List ℕ} {count start : ℕ} {marks : List ℕ} {last i : 
         last-is = here ∙ sym (ap (lastOf start) more ∙ last-snoc start (take i marks₀) x);
       }
 
-  pub passed-all : i ≡ count → (marks ≡ written marks₀ (lengths start (take count marks₀))) × (last ≡ lastOf start (take count marks₀))
+  pub passed-all : i ≡ count → Distances marks₀ count start marks last
   unfolding written
   passed-all e = (
-    p .is ∙ ap₂ (λ (n k : ℕ). lengths start (take n marks₀) ++ drop k marks₀) e (sym (lengths-long start (take count marks₀) ∙ length-take-le count marks₀ fit ∙ sym e)),
+    p .is
+        ∙ ap₂ (λ (n k : ℕ). lengths start (take n marks₀) ++ drop k marks₀) e
+        (sym (lengths-long start (take count marks₀) ∙ length-take-le count marks₀ fit ∙ sym e)),
     p .last-is ∙ ap (λ (n : ℕ). lastOf start (take n marks₀)) e,
   )
 
@@ -78,19 +81,20 @@ take-min (suc n) (x ∷ l) = ap (λ (k : ℕ). take k (x ∷ l)) (suc-min-suc n 
 
 -- a tally, by what the calls in it ensure
 pub tallied : (t : Tally) (marks marks′ : List ℕ) (marked wrote count start last units bytes : ℕ)
-    → count ≡ min marked (length marks) → start ≡ gap 0 (t .bytes) → marks′ ≡ written marks (lengths start (take count marks)) → last ≡ lastOf start (take count marks)
+    → count ≡ min marked (length marks) → start ≡ gap 0 (t .bytes) → Distances marks count start marks′ last
     → units ≡ (t .units + count) % wrap → bytes ≡ gap wrote last
     → Tallied t marks marked wrote marks′ (record { units = units; bytes = bytes })
-tallied t marks marks′ marked wrote count start last units bytes ec es em el eu eb =
+tallied t marks marks′ marked wrote count start last units bytes ec es d eu eb =
     let front : take count marks ≡ take marked marks = ap (λ (n : ℕ). take n marks) ec ∙ take-min marked marks in
     record {
-      lengths-are = em ∙ ap₂ (λ (s : ℕ) (l : List ℕ). written marks (lengths s l)) es front;
+      lengths-are = d .0 ∙ ap₂ (λ (s : ℕ) (l : List ℕ). written marks (lengths s l)) es front;
       units-is = eu ∙ ap (λ (n : ℕ). (t .units + n) % wrap) (ec ∙ sym (length-take marked marks));
-      bytes-is = eb ∙ ap (gap wrote) (el ∙ ap₂ lastOf es front);
+      bytes-is = eb ∙ ap (gap wrote) (d .1 ∙ ap₂ lastOf es front);
     }
 
 -- a tally keeps the marks' number
-pub tallied-long : {t : Tally} {marks : List ℕ} {marked wrote : ℕ} {marks′ : List ℕ} {r : Tally} → Tallied t marks marked wrote marks′ r → length marks′ ≡ length marks
+pub tallied-long : {t : Tally} {marks : List ℕ} {marked wrote : ℕ} {marks′ : List ℕ} {r : Tally} → Tallied t marks marked wrote marks′ r
+    → length marks′ ≡ length marks
 tallied-long {t} {marks} {marked} d =
     let l = lengths (gap 0 (t .bytes)) (take marked marks) in
     ap length (d .lengths-are) ∙ length-written marks l (omega (arith, lengths-long (gap 0 (t .bytes)) (take marked marks), length-take marked marks))

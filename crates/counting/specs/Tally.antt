@@ -1,4 +1,4 @@
--- What a tally does with the marks of one call. Assumes nothing: these are definitions.
+-- What a tally does with the marks of one call.
 use Prim.Native.Nat.{ℕ, _+_, _-_, _%_}
 use mathlib.Core.Path.{_≡_}
 use mathlib.Core.List.{List, [], _∷_}
@@ -22,6 +22,10 @@ lengths s (m ∷ ms) = gap m s ∷ lengths m ms
 abbrev pub lastOf : ℕ → List ℕ → ℕ
 lastOf s [] = s
 lastOf s (m ∷ ms) = lastOf m ms
+
+-- the contract of the loop: the first `count` marks give way to their distances, and the last of them is answered
+abbrev pub Distances : List ℕ → ℕ → ℕ → List ℕ → ℕ → Type 0
+Distances marks count start marks′ last = (marks′ ≡ written marks (lengths start (take count marks))) × (last ≡ lastOf start (take count marks))
 
 -- no unit yet
 abbrev pub nothing : Tally

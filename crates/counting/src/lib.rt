@@ -1,9 +1,8 @@
 // The lengths of units, by the marks that framing gives.
 ghost use mathlib.Core.Path.{_≡_};
 ghost use Prim.Native.Nat.{_≤_, min};
-ghost use lib.ListN.{length, take};
-ghost use Rattle.desk.specs.Room.{written};
-ghost use Rattle.counting.specs.Tally.{lengths, lastOf, nothing, Tallied};
+ghost use lib.ListN.{length};
+ghost use Rattle.counting.specs.Tally.{Distances, nothing, Tallied};
 
 // The units that ended so far, and the bytes of the open unit that were given so far. Both are exact below 2^64, and modulo 2^64 from there on.
 pub struct Tally {
@@ -20,7 +19,7 @@ fn least(a: usize, b: usize) -> usize
 // Puts the distance of each of the first count marks from the one before it in its place, the first one's from `start`; answers the last of them.
 fn distances(marks: &mut [u64], count: usize, start: u64) -> u64
     requires { ⌜ count ≤ length (now marks) ⌝ }
-    ensures { λ r. ⌜ (now (marks .exit) ≡ written (now (marks .entry)) (lengths start (take count (now (marks .entry))))) × (r ≡ lastOf start (take count (now (marks .entry)))) ⌝ }
+    ensures { λ r. ⌜ Distances (now (marks .entry)) count start (now (marks .exit)) r ⌝ }
 {
     let mut last = start;
     let mut i = 0;

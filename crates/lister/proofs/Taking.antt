@@ -13,22 +13,40 @@ use Rattle.annexb.specs.declared.Pushed.{Pushed}
 use Rattle.annexb.specs.Answer.{entering, pushAnswer, Gave}
 use Rattle.annexb.proofs.Laws.{push-takes-longest, push-takes-one}
 use Rattle.annexb.proofs.Calling.{push-few}
-use Rattle.lister.specs.Ready.{Ready, Listed}
+use Rattle.lister.specs.System.{KeptOrFailed}
+use Rattle.lister.specs.Listed.{Ready, Some}
 
-pub passes : (s : AnnexBReader) {filled chunk room marks text : ℕ} → Ready (s .zeros) filled chunk room marks text → entering s chunk room marks ≡ 0
-passes s {filled} {chunk} {room} {marks} g = entry-done (chunk ∷ room ∷ marks ∷ []) (ltb 2 (s .zeros)) (g .chunk-few, (g .room-few, (g .marks-few, tt))) (le-ltb 2 (s .zeros) (g .good))
+-- with a part of the chunk, and buffers that are as long
+pub still-ready : {zeros chunk room marks text zeros′ chunk′ room′ marks′ text′ : ℕ} → Ready zeros chunk room marks text
+    → zeros′ ≤ 2 → chunk′ ≤ chunk → room′ ≡ room → marks′ ≡ marks → text′ ≡ text → Ready zeros′ chunk′ room′ marks′ text′
+still-ready g z ec er em et =
+    record {
+      good = z;
+      chunk-few = omega (arith, g .chunk-few, ec);
+      room-3 = omega (arith, g .room-3, er);
+      room-few = omega (arith, g .room-few, er);
+      marks-1 = omega (arith, g .marks-1, em);
+      marks-few = omega (arith, g .marks-few, em);
+      lines-fit = omega (arith, g .lines-fit, em, et);
+    }
 
-taken-one : (s : AnnexBReader) (chunk : List ℕ) (room marks filled text : ℕ) → 1 ≤ length chunk → Ready (s .zeros) filled (length chunk) room marks text → 1 ≤ pushAnswer s chunk room marks .taken
-taken-one s [] room marks filled text h g = absurd (not-suc-le-zero h)
-taken-one s (b ∷ bs) room marks filled text h g = push-takes-one s b bs room marks (passes s g) (g .room-3) (g .marks-1)
+pub passes : (s : AnnexBReader) {chunk room marks text : ℕ} → Ready (s .zeros) chunk room marks text → entering s chunk room marks ≡ 0
+passes s {chunk} {room} {marks} g =
+    entry-done (chunk ∷ room ∷ marks ∷ []) (ltb 2 (s .zeros)) (g .chunk-few, (g .room-few, (g .marks-few, tt))) (le-ltb 2 (s .zeros) (g .good))
 
-pub listed : (s : AnnexBReader) (chunk room marks : List ℕ) {room′ marks′ : List ℕ} {r : Pushed} {filled filled′ text text′ : ℕ} → 1 ≤ length chunk
-    → Ready (s .zeros) filled (length chunk) (length room) (length marks) text → Gave (pushAnswer s chunk (length room) (length marks)) room marks room′ marks′ r → filled′ ≤ text′
-    → Listed (r .state .zeros) filled′ (r .taken) (length chunk) text′
-listed s chunk room marks {room′} {marks′} {r} {filled} {filled′} {text} h g o w =
+taken-one : (s : AnnexBReader) (chunk : List ℕ) {room marks text : ℕ} → 1 ≤ length chunk → Ready (s .zeros) (length chunk) room marks text
+    → 1 ≤ pushAnswer s chunk room marks .taken
+taken-one s [] h g = absurd (not-suc-le-zero h)
+taken-one s (b ∷ bs) {room} {marks} h g = push-takes-one s b bs room marks (passes s g) (g .room-3) (g .marks-1)
+
+pub some-listed : (s : AnnexBReader) (chunk room marks : List ℕ) {room′ marks′ : List ℕ} {r : Pushed} {text status status′ : ℕ} → 1 ≤ length chunk
+    → Ready (s .zeros) (length chunk) (length room) (length marks) text
+    → Gave (pushAnswer s chunk (length room) (length marks)) room marks room′ marks′ r → KeptOrFailed status status′
+    → Some (r .state .zeros) (r .taken) (length chunk) status status′
+some-listed s chunk room marks {room′} {marks′} {r} h g o w =
     record {
       good = push-few s chunk room marks room′ marks′ r (g .good) o;
-      waiting = w;
-      some-taken = omega (arith, o .taken-is, taken-one s chunk (length room) (length marks) filled text h g);
+      some-taken = omega (arith, o .taken-is, taken-one s chunk h g);
       taken-few = omega (arith, o .taken-is, push-takes-longest s chunk (length room) (length marks) (passes s g) .few);
+      well = w;
     }

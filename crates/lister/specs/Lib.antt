@@ -1,2 +1,5 @@
--- What the contracts cite.
-pub mod Ready
+-- What the contracts and laws cite.
+pub mod Buffer
+pub mod Listed
+pub mod System
+pub mod Text

@@ -38,7 +38,9 @@ loop-less c = search needs
 loop-again : tie.Need-loop-again Inv-loop μ-loop
 loop-again c =
     let l = c .before .before .before .loop in
-    passed-more (l .inv) (c .before .before .before .before .before .pre) (c .before .before .loop-test .taken) (c .wrapping-sub-u64 .result) (wrapped _ _ _ (omega arith) (c .wrapping-sub-u64 .ensures))
+    let w = c .wrapping-sub-u64 in
+    passed-more (l .inv) (c .before .before .before .before .before .pre) (c .before .before .loop-test .taken) (w .result)
+    (wrapped _ _ _ (omega arith) (w .ensures))
 
 same-length : tie.Need-same-length Inv-loop μ-loop
 same-length c = c .before .loop .inv .long

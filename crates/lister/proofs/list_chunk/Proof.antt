@@ -1,25 +1,25 @@
-use Prim.Native.Nat.{zero-le}
-use native.Mathlib.Omega.{arith}
-use denote.Ref.{now}
-use Prim.Native.Nat.{_-_, _≤_}
-use mathlib.Core.Path.{_≡_, refl}
-use lib.ListN.{length, take}
+use Rattle.lister.proofs.Chunk.{Along, along-none, along-ready, along-more, along-failed, along-all}
+use Rattle.lister.proofs.Carrying.{rest-long}
 use borrow.Author.Needs.{needs}
-use Rattle.lister.specs.Ready.{Carried}
-use Rattle.lister.proofs.Carrying.{rest-long, carried-none, carried-more, carried-all}
+use denote.Ref.{now}
+use lib.ListN.{length}
+use native.Mathlib.Omega.{arith}
+use Prim.Native.Nat.{_-_}
 use Rattle.lister.proofs.list_chunk.Statement.{statement}
 use Rattle.lister.proofs.list_chunk.Tie as tie
 
 abbrev Inv-loop : tie.InvT-loop
-Inv-loop chunk room₀ marks₀ text₀ progress₀ at₀ room marks text progress at = (at ≤ length chunk) × (length room ≡ length room₀) × (length marks ≡ length marks₀) × (length text ≡ length text₀) × (progress .reader .zeros ≤ 2) × (progress .out .filled ≤ length text) × Carried (progress₀ .reader) (progress₀ .tally) (take at chunk) (progress .reader) (progress .tally)
+Inv-loop chunk room₀ marks₀ text₀ sent₀ status₀ progress₀ at₀ room marks text sent status progress at =
+    Along chunk room₀ marks₀ text₀ sent₀ progress₀ room marks text sent status progress at
 
 abbrev μ-loop : tie.MeasureT-loop
-μ-loop chunk room₀ marks₀ text₀ progress₀ at₀ room marks text progress at = length chunk - at
+μ-loop chunk room₀ marks₀ text₀ sent₀ status₀ progress₀ at₀ room marks text sent status progress at = length chunk - at
 
 loop-holds : tie.Need-loop-holds Inv-loop μ-loop
 loop-holds c =
     let s = c .before .before .before .before in
-    (zero-le, refl, refl, refl, s .pre .good, s .pre .waiting, carried-none (s .args .p .reader) (s .args .p .tally))
+    let a = s .args in
+    along-none (now (a .chunk)) (now (a .room)) (now (a .marks)) (now (a .text)) (now (a .sent)) (a .p) (s .pre .0) (s .pre .1 .good)
 
 sub-list-some : tie.Need-sub-list-some Inv-loop μ-loop
 sub-list-some c = search needs
@@ -31,20 +31,16 @@ part-list-some-end : tie.Need-part-list-some-end Inv-loop μ-loop
 part-list-some-end c = search needs
 
 list-some-requires : tie.Need-list-some-requires Inv-loop μ-loop
-list-some-requires c κs = search needs
+list-some-requires c κs =
+    let l = c .before .before .before .before .before .before .before in
+    let s = l .before .before .before .before .before in
+    along-ready (l .loop .inv) (s .pre .1) (c .before .before .before .before .before .before .loop-test .taken)
 
 add-at : tie.Need-add-at Inv-loop μ-loop
-add-at c = search needs
-
-loop-less : tie.Need-loop-less Inv-loop μ-loop
-loop-less c = search needs
-
-loop-again : tie.Need-loop-again Inv-loop μ-loop
-loop-again c =
-    let l = c .before .before .before .before .before .before .before .before .before .before .before .before .before .before in
-    let s = l .before .before .before .before .before in
-    let r = c .before .before .before .before .before .before .before .before .list-some in
-    (omega (arith, r .ensures .0 .taken-few, rest-long (now (s .args .chunk)) (l .loop .at)), search needs, search needs, search needs, r .ensures .0 .good, r .ensures .0 .waiting, carried-more (now (s .args .chunk)) (l .loop .at) (r .result .taken) (l .loop .inv .6) (r .ensures .1))
+add-at c =
+    let r = c .before .before .before .before .before .before .before .before in
+    let l = r .before .before .before .before .before .before .before .before in
+    omega (arith, r .list-some .ensures .0 .taken-few, rest-long (now (l .before .before .before .before .before .args .chunk)) (l .loop .at))
 
 same-length : tie.Need-same-length Inv-loop μ-loop
 same-length c = search needs
@@ -57,8 +53,33 @@ same-length-3 c = search needs
 
 returns : tie.Need-returns Inv-loop μ-loop
 returns c =
-    let l = c .before .loop in
-    (l .inv .4, l .inv .5, carried-all (now (c .before .before .before .before .before .before .args .chunk)) (l .at) (omega arith) (l .inv .6))
+    let r = c .before .before .before .before .before .before .before .before .before .before in
+    let l = r .before .before .before .before .before .before .before .before in
+    along-failed (l .loop .inv) (r .list-some .ensures .0) (r .list-some .ensures .1) (c .if1 .taken)
+
+loop-less : tie.Need-loop-less Inv-loop μ-loop
+loop-less c =
+    let r = c .before .before .before .before .before .before .before .before .before .before in
+    omega (arith, r .list-some .ensures .0 .some-taken, r .before .before .before .before .before .before .before .loop-test .taken)
+
+loop-again : tie.Need-loop-again Inv-loop μ-loop
+loop-again c =
+    let r = c .before .before .before .before .before .before .before .before .before .before in
+    let l = r .before .before .before .before .before .before .before .before in
+    let k = r .list-some .kept .1 .1 in
+    along-more (l .loop .inv) (r .list-some .ensures .0) (r .list-some .ensures .1) (k .0) (k .1 .0) (k .1 .1 .0) (c .if1 .left)
+
+same-length-4 : tie.Need-same-length-4 Inv-loop μ-loop
+same-length-4 c = c .before .loop .inv .room-long
+
+same-length-5 : tie.Need-same-length-5 Inv-loop μ-loop
+same-length-5 c = c .before .loop .inv .marks-long
+
+same-length-6 : tie.Need-same-length-6 Inv-loop μ-loop
+same-length-6 c = c .before .loop .inv .text-long
+
+returns-2 : tie.Need-returns-2 Inv-loop μ-loop
+returns-2 c = along-all (c .before .loop .inv) (omega arith)
 
 pub list-chunk-spec : {M : Type 1} → statement M
 list-chunk-spec =
@@ -72,9 +93,13 @@ list-chunk-spec =
     part-list-some-end
     list-some-requires
     add-at
-    loop-less
-    loop-again
     same-length
     same-length-2
     same-length-3
-    returns)
+    returns
+    loop-less
+    loop-again
+    same-length-4
+    same-length-5
+    same-length-6
+    returns-2)

@@ -28,7 +28,9 @@ returns c =
     let d = c .before .before .before .before in
     let w = d .before .before in
     let a = w .before .before .before .args in
-    tallied (a .self) (now (a .marks)) (d .distances .last .0) (a .marked) (a .written) _ _ _ _ _ (w .before .least .ensures) (wrapped _ _ _ (omega arith) (w .wrapping-sub-u64 .ensures)) (d .distances .ensures .0) (d .distances .ensures .1) (c .before .wrapping-add-u64 .ensures) (wrapped _ _ _ (omega arith) (c .wrapping-sub-u642 .ensures))
+    tallied (a .self) (now (a .marks)) (d .distances .last .0) (a .marked) (a .written) _ _ _ _ _ (w .before .least .ensures)
+    (wrapped _ _ _ (omega arith) (w .wrapping-sub-u64 .ensures)) (d .distances .ensures) (c .before .wrapping-add-u64 .ensures)
+    (wrapped _ _ _ (omega arith) (c .wrapping-sub-u642 .ensures))
 
 pub tally-spec : {M : Type 1} → statement M
 tally-spec =

@@ -1,19 +1,23 @@
 use Prim.Native.Nat.{_-_, _≤_}
+use native.Mathlib.Numerals.{add-one}
 use native.Mathlib.Omega.{arith}
-use mathlib.Core.Path.{_≡_, refl}
+use mathlib.Core.Path.{_≡_, refl, ap, sym, _∙_}
 use lib.ListN.{length, length-set}
+use lib.Seq.{paste, paste-zero, paste-suc}
+use denote.Ref.{now}
 use borrow.Author.Needs.{needs}
-use Rattle.lister.proofs.put.Statement.{statement}
-use Rattle.lister.proofs.put.Tie as tie
+use Rattle.lister.proofs.Filling.{puts-copy}
+use Rattle.lister.proofs.text.put.Statement.{statement}
+use Rattle.lister.proofs.text.put.Tie as tie
 
 abbrev Inv-loop : tie.InvT-loop
-Inv-loop text₀ at word i₀ text i = (i ≤ length word) × (length text ≡ length text₀)
+Inv-loop text₀ at word i₀ text i = (i ≤ length word) × (length text ≡ length text₀) × (text ≡ paste text₀ at word i)
 
 abbrev μ-loop : tie.MeasureT-loop
 μ-loop text₀ at word i₀ text i = length word - i
 
 loop-holds : tie.Need-loop-holds Inv-loop μ-loop
-loop-holds c = (omega arith, refl)
+loop-holds c = (omega arith, refl, paste-zero (c .args .text .now) (c .args .at) (c .args .word .now))
 
 shared-slice-read-text : tie.Need-shared-slice-read-text Inv-loop μ-loop
 shared-slice-read-text c = search needs
@@ -31,7 +35,13 @@ loop-less : tie.Need-loop-less Inv-loop μ-loop
 loop-less c = search needs
 
 loop-again : tie.Need-loop-again Inv-loop μ-loop
-loop-again c = (omega arith, simp length-set (c .before .before .loop .inv .1))
+loop-again c =
+    let l = c .before .before .loop in
+    let a = c .before .before .before .args in (
+      omega arith,
+      simp length-set (l .inv .1),
+      rw (l .inv .2, add-one) (paste-suc (a .text .now) (a .at) (a .word .now) (l .i) 0 (omega arith) (omega arith)),
+    )
 
 add-result : tie.Need-add-result Inv-loop μ-loop
 add-result c = search needs
@@ -40,7 +50,10 @@ same-length : tie.Need-same-length Inv-loop μ-loop
 same-length c = c .before .loop .inv .1
 
 returns : tie.Need-returns Inv-loop μ-loop
-returns c = search needs
+returns c =
+    let l = c .before .loop in
+    let a = c .before .before .args in
+    puts-copy (now (a .text)) (a .at) (now (a .word)) (l .text) (l .i) (c .before .before .pre) (omega arith) (l .inv .2)
 
 pub put-spec : {M : Type 1} → statement M
 put-spec =

@@ -1,18 +1,18 @@
-use Prim.Native.Nat.{_-_, _≤_}
-use mathlib.Core.Path.{_≡_}
-use lib.ListN.{length}
+use Prim.Native.Nat.{_-_}
+use native.Mathlib.Omega.{arith}
 use borrow.Author.Needs.{needs}
-use Rattle.lister.proofs.unit_lines.Statement.{statement}
-use Rattle.lister.proofs.unit_lines.Tie as tie
+use Rattle.lister.proofs.Filling.{Lined, lined-none, lined-more, lined-all}
+use Rattle.lister.proofs.text.unit_lines.Statement.{statement}
+use Rattle.lister.proofs.text.unit_lines.Tie as tie
 
 abbrev Inv-loop : tie.InvT-loop
-Inv-loop text₀ lengths count first o₀ index₀ i₀ text o index i = (i ≤ count) × (length text ≡ length text₀) × (o .filled ≤ length text)
+Inv-loop text₀ lengths count first at₀ index₀ i₀ text at index i = Lined text₀ lengths count first text at index i
 
 abbrev μ-loop : tie.MeasureT-loop
-μ-loop text₀ lengths count first o₀ index₀ i₀ text o index i = count - i
+μ-loop text₀ lengths count first at₀ index₀ i₀ text at index i = count - i
 
 loop-holds : tie.Need-loop-holds Inv-loop μ-loop
-loop-holds c = search needs
+loop-holds c = let a = c .before .before .args in lined-none (a .text .now) (a .lengths .now) (a .count) (a .first) (omega arith)
 
 mul-unit-line : tie.Need-mul-unit-line Inv-loop μ-loop
 mul-unit-line c = search needs
@@ -33,13 +33,18 @@ loop-less : tie.Need-loop-less Inv-loop μ-loop
 loop-less c = search needs
 
 loop-again : tie.Need-loop-again Inv-loop μ-loop
-loop-again c = search needs
+loop-again c =
+    let u = c .before .before .before .unit-line in
+    let i = c .before .before .before .before .before .before in
+    let l = i .before in
+    let more = c .wrapping-add-u64 .ensures in
+    lined-more (l .loop .inv) (i .loop-test .taken) (omega arith) (u .kept .0) (u .ensures .0) (u .ensures .1) more
 
 same-length : tie.Need-same-length Inv-loop μ-loop
-same-length c = search needs
+same-length c = c .before .loop .inv .long
 
 returns : tie.Need-returns Inv-loop μ-loop
-returns c = search needs
+returns c = lined-all (c .before .loop .inv) (omega arith)
 
 pub unit-lines-spec : {M : Type 1} → statement M
 unit-lines-spec =
