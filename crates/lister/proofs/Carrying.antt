@@ -1,9 +1,8 @@
 -- Where a listing stands after a push whose lines are handed out, and after the reset at the end.
 use Prim.Native.Nat.{ℕ, _+_, _-_, _%_}
-use native.Mathlib.Nat.{zero-add}
 use native.Mathlib.Omega.{arith}
 use mathlib.Core.Path.{_≡_, ap, ap₂, sym, _∙_, subst}
-use mathlib.Core.List.{List, [], _++_, map, append-assoc, append-nil}
+use mathlib.Core.List.{List, _++_, append-assoc, append-nil}
 use lib.ListN.{length, take, drop, length-map, length-drop, take-append-drop}
 use lib.Seq.{drop-drop}
 use Rattle.desk.proofs.Room.{rest-is}
@@ -14,13 +13,13 @@ use Rattle.annexb.specs.Answer.{pushAnswer, resetAnswer, Gave}
 use Rattle.annexb.proofs.Completing.{reset-done}
 use Rattle.counting.specs.declared.Tally.{Tally}
 use Rattle.counting.specs.Tally.{wrap, Tallied}
-use Rattle.counting.specs.Listing.{Listing, Counted}
+use Rattle.counting.specs.Listing.{Listing}
 use Rattle.counting.proofs.Counting.{listing-rule, listing-reset}
 use Rattle.lister.specs.declared.Progress.{Progress}
-use Rattle.lister.specs.Text.{linesBy, modulo, totalLine, unitLinesTold, listingTold}
+use Rattle.lister.specs.Text.{linesBy, modulo, totalLine, listingTold}
 use Rattle.lister.specs.Buffer.{Puts}
 use Rattle.lister.specs.System.{Read, Sent, HandedOut}
-use Rattle.lister.specs.Listed.{Ready, Stands, Lists, Whole, Finishes, Part}
+use Rattle.lister.specs.Listed.{Ready, Stands, Lists, Finishes, Part}
 use Rattle.lister.proofs.Lines.{lines-append, lines-modulo}
 use Rattle.lister.proofs.Filling.{puts-more}
 use Rattle.lister.proofs.Taking.{passes}

@@ -3,7 +3,7 @@ use Prim.Native.Nat.{ℕ, _+_, _*_, _≤_}
 use mathlib.Core.Path.{_≡_}
 use mathlib.Core.Logic.{_⊎_}
 use mathlib.Core.List.{List, [], _++_}
-use lib.ListN.{length, drop}
+use lib.ListN.{drop}
 use Rattle.desk.specs.Numbers.{most}
 use Rattle.annexb.specs.Rule.{frame, unitsAtReset}
 use Rattle.counting.specs.Listing.{Listing}
