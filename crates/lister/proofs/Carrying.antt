@@ -1,9 +1,8 @@
 -- Where a listing stands after a push whose lines are handed out, and after the reset at the end.
 use Prim.Native.Nat.{ℕ, _+_, _-_, _%_}
-use native.Mathlib.Nat.{zero-add}
 use native.Mathlib.Omega.{arith}
 use mathlib.Core.Path.{_≡_, ap, ap₂, sym, _∙_, subst}
-use mathlib.Core.List.{List, [], _++_, map, append-assoc, append-nil}
+use mathlib.Core.List.{List, _++_, append-assoc, append-nil}
 use lib.ListN.{length, take, drop, length-map, length-drop, take-append-drop}
 use lib.Seq.{drop-drop}
 use Rattle.desk.proofs.Room.{rest-is}
@@ -14,13 +13,13 @@ use Rattle.annexb.specs.Answer.{pushAnswer, resetAnswer, Gave}
 use Rattle.annexb.proofs.Completing.{reset-done}
 use Rattle.counting.specs.declared.Tally.{Tally}
 use Rattle.counting.specs.Tally.{wrap, Tallied}
-use Rattle.counting.specs.Listing.{Listing, Counted}
+use Rattle.counting.specs.Listing.{Listing}
 use Rattle.counting.proofs.Counting.{listing-rule, listing-reset}
 use Rattle.lister.specs.declared.Progress.{Progress}
-use Rattle.lister.specs.Text.{linesBy, modulo, totalLine, unitLinesTold, listingTold}
+use Rattle.lister.specs.Text.{linesBy, modulo, totalLine, listingTold}
 use Rattle.lister.specs.Buffer.{Puts}
 use Rattle.lister.specs.System.{Read, Sent, HandedOut}
-use Rattle.lister.specs.Listed.{Ready, Stands, Lists, Whole, Finishes, Part}
+use Rattle.lister.specs.Listed.{Ready, Carries, Lists, Finishes, PartText}
 use Rattle.lister.proofs.Lines.{lines-append, lines-modulo}
 use Rattle.lister.proofs.Filling.{puts-more}
 use Rattle.lister.proofs.Taking.{passes}
@@ -88,7 +87,7 @@ module _ (p : Progress) (room marks room′ marks′ marks″ text text′ : Lis
       }
 
 -- WHAT IS TOLD SO FAR ARE THE LINES OF THE RULE'S UNITS THAT ENDED
-pub part-told : {waiting : List ℕ} {read sent : ℕ} {p : Progress} → Stands waiting read sent p → Part waiting read sent
+pub part-told : {waiting : List ℕ} {read sent : ℕ} {p : Progress} → Carries waiting read sent p → PartText waiting read sent
 part-told {waiting} {read} {sent} k =
     let lines = ap (linesBy modulo 0) (listing-rule (k .listing) .lengths-told) in
     record { listed = k .taken; was-read = k .was-read; was-sent = subst (λ (l : List ℕ). Sent l sent) lines (k .was-sent) }
@@ -103,5 +102,5 @@ pub lists-more : (chunk : List ℕ) (at n : ℕ) {sent sent₁ sent₂ : ℕ} {p
     → Lists (take (length chunk - at) (drop at chunk)) sent₁ p₁ n sent₂ p₂ → Lists chunk sent p (at + n) sent₂ p₂
 lists-more chunk at n {sent₁ = sent₁} {sent₂ = sent₂} {p₁ = p₁} {p₂ = p₂} l m read k =
     let rest = rest-is chunk at in
-    subst (λ (x : List ℕ). Stands x read sent₂ p₂) (ap (drop n) rest ∙ drop-drop n at chunk)
-    (m read (subst (λ (x : List ℕ). Stands x read sent₁ p₁) (sym rest) (l read k)))
+    subst (λ (x : List ℕ). Carries x read sent₂ p₂) (ap (drop n) rest ∙ drop-drop n at chunk)
+    (m read (subst (λ (x : List ℕ). Carries x read sent₁ p₁) (sym rest) (l read k)))

@@ -1,13 +1,13 @@
 -- Below 2^64 the text told is the text: a stream has fewer units, and units of fewer bytes, than it has bytes.
 use Prim.Native.Nat.{ℕ, suc, _+_, _%_, _≤_, _<_}
 use native.Mathlib.Omega.{arith}
-use mathlib.Core.Path.{_≡_, refl, ap, ap₂, _∙_}
-use mathlib.Core.Bool.{Bool, true, false, cond}
+use mathlib.Core.Path.{_≡_, refl, ap, ap₂}
+use mathlib.Core.Bool.{Bool, false, cond}
 use mathlib.Core.List.{List, [], _∷_, _++_, map}
 use lib.ListN.{length, take, drop, length-append, take-append-drop}
 use Rattle.desk.specs.Search.{is1}
 use Rattle.desk.proofs.Search.{stays}
-use Rattle.annexb.specs.Rule.{Frame, Frames, frame, joined, unitsOf, unitsAtReset}
+use Rattle.annexb.specs.Rule.{Frame, Frames, joined, unitsOf, unitsAtReset}
 use Rattle.annexb.proofs.Framing.{frames}
 use Rattle.counting.specs.Tally.{wrap}
 use Rattle.lister.specs.Text.{unitLine, totalLine, linesBy, modulo, listingText, listingTold}

@@ -1,5 +1,5 @@
 -- There is a listing of every stream: so no law here speaks of nothing.
-use Prim.Native.Nat.{ℕ, _+_, _%_}
+use Prim.Native.Nat.{ℕ}
 use native.Mathlib.Omega.{arith}
 use mathlib.Core.Path.{_≡_, refl, sym, subst}
 use mathlib.Core.List.{List, [], append-nil}
@@ -8,27 +8,27 @@ use Rattle.counting.proofs.Existing.{Exists, every-stream}
 use Rattle.lister.specs.declared.Progress.{Progress}
 use Rattle.lister.specs.Text.{linesBy, modulo}
 use Rattle.lister.specs.System.{Through, Read, through-none, through-more}
-use Rattle.lister.specs.Listed.{Stands}
+use Rattle.lister.specs.Listed.{Carries}
 
 -- the bytes l have gone through the descriptor fd at once
 at-once : (fd : ℕ) (l : List ℕ) → Through fd l (length l)
 at-once fd l = through-more fd [] l 0 (length l) (through-none fd) (omega arith)
 
-pub record Reached (h : List ℕ) : Type 0 where
+pub record ListedAll (h : List ℕ) : Type 0 where
   pub read : ℕ
   pub sent : ℕ
   pub progress : Progress
-  pub stands : Stands [] read sent progress
-  pub all : stands .taken ≡ h
+  pub carries : Carries [] read sent progress
+  pub all : carries .taken ≡ h
 
-pub every-listed : (h : List ℕ) → Reached h
+pub every-listed : (h : List ℕ) → ListedAll h
 every-listed h =
     let x : Exists h = every-stream h in
     record {
       read = length h;
       sent = length (linesBy modulo 0 (x .told));
       progress = record { reader = x .state; tally = x .tally };
-      stands =
+      carries =
           record {
             taken = h;
             given = x .given;

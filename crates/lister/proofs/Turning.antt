@@ -15,7 +15,7 @@ use Rattle.counting.specs.Tally.{nothing}
 use Rattle.counting.specs.Listing.{Listing}
 use Rattle.lister.specs.declared.Progress.{Progress}
 use Rattle.lister.specs.System.{Read, Sent, more, ended, writeFailed, overBy, KeptOrFailed, TookIn}
-use Rattle.lister.specs.Listed.{Stands, All, Lists, Turned, Finishes, Came}
+use Rattle.lister.specs.Listed.{Carries, All, Lists, Turned, Finishes, CameTo}
 use Rattle.lister.proofs.Carrying.{part-told}
 
 -- ---- one turn
@@ -26,9 +26,9 @@ none-came (pos k) n e h o = let z : k ≡ 0 = omega arith in ap pos z
 none-came (negsuc k) n e h o = absurd (let z : ⊥ = omega arith in z)
 
 module _ {chunk : List ℕ} {read : ℕ} {got : ℤ} {read′ n sent : ℕ} {p : Progress} (o : TookIn chunk read got read′)
-    (e : n ≡ clamped got (length chunk)) (k : Stands [] read sent p) where
+    (e : n ≡ clamped got (length chunk)) (k : Carries [] read sent p) where
   -- what a read gave waits
-  waits : Stands (take n chunk) read′ sent p
+  waits : Carries (take n chunk) read′ sent p
   waits =
       let all : (k .taken ++ []) ++ take (clamped got (length chunk)) chunk ≡ k .taken ++ take n chunk =
       append-assoc (k .taken) [] (take (clamped got (length chunk)) chunk) ∙ ap (λ (j : ℕ). k .taken ++ take j chunk) (sym e) in
@@ -47,7 +47,7 @@ module _ {chunk : List ℕ} {read : ℕ} {got : ℤ} {read′ n sent : ℕ} {p :
       record {
         good = g;
         waiting = take n chunk;
-        stands = waits;
+        carries = waits;
         none-waits = λ _. ap (λ (j : ℕ). take j chunk) z;
         at-end = λ q. o .nothing h (none-came got (length chunk) (sym e ∙ z) h (sym w ∙ q));
       }
@@ -58,7 +58,7 @@ module _ {chunk : List ℕ} {read : ℕ} {got : ℤ} {read′ n sent : ℕ} {p :
       record {
         good = a .good;
         waiting = drop taken (take n chunk);
-        stands = l read′ waits;
+        carries = l read′ waits;
         none-waits = λ h. ap (λ (j : ℕ). drop j (take n chunk)) (a .all-taken h .1) ∙ drop-length (take n chunk);
         at-end = λ q. absurd (let z : ⊥ = omega (arith, q, a .all-taken (λ h. let z : ⊥ = omega arith in z) .0) in z);
       }
@@ -73,7 +73,7 @@ pub record Going (chunk₀ room₀ marks₀ text₀ chunk room marks text : List
   pub text-long : length text ≡ length text₀
   pub good : p .reader .zeros ≤ 2
   pub well : status ≡ more
-  pub stands : Stands [] read sent p
+  pub carries : Carries [] read sent p
 
 pub going-first : (chunk room marks text : List ℕ) {read sent status : ℕ} → status ≡ more → Read [] read → Sent [] sent
     → {s : AnnexBReader} {t : Tally} → s ≡ new → t ≡ nothing
@@ -87,12 +87,12 @@ going-first chunk room marks text {read} {sent} {status} e r w {s} {t} es et =
       text-long = refl;
       good = omega (arith, ap (λ (x : AnnexBReader). x .zeros) es);
       well = e;
-      stands = record { taken = []; given = []; ends = []; lengths = []; listing = first; was-read = r; was-sent = w };
+      carries = record { taken = []; given = []; ends = []; lengths = []; listing = first; was-read = r; was-sent = w };
     }
 
 module _ {status read sent : ℕ} {p : Progress} (u : Turned status read sent p) where
-  none-left : (status ≡ writeFailed → ⊥) → Stands [] read sent p
-  none-left h = subst (λ (l : List ℕ). Stands l read sent p) (u .none-waits h) (u .stands)
+  none-left : (status ≡ writeFailed → ⊥) → Carries [] read sent p
+  none-left h = subst (λ (l : List ℕ). Carries l read sent p) (u .none-waits h) (u .carries)
 
   -- after a turn
   pub going-on : {chunk₀ room₀ marks₀ text₀ chunk room marks text : List ℕ} → length chunk ≡ length chunk₀ → length room ≡ length room₀
@@ -106,25 +106,29 @@ module _ {status read sent : ℕ} {p : Progress} (u : Turned status read sent p)
         text-long = et;
         good = u .good;
         well = e;
-        stands = none-left (λ h. let z : ⊥ = omega arith in z);
+        carries = none-left (λ h. let z : ⊥ = omega arith in z);
       }
 
   -- the last: the input has ended, and its end is told
-  pub came-whole : {sent′ status′ : ℕ} → status ≡ ended → Finishes sent p sent′ → KeptOrFailed status status′ → Came read sent′ status′
+  pub came-whole : {sent′ status′ : ℕ} → status ≡ ended → Finishes sent p sent′ → KeptOrFailed status status′ → CameTo read sent′ status′
   came-whole e f w =
       let whole = f read (none-left (λ h. let z : ⊥ = omega arith in z)) in
       record { at-end = λ _. (u .at-end e, whole); read-failed = λ n h. absurd (n (w h ∙ e)); write-failed = λ _. inl whole }
 
   -- or a call failed
-  pub came-part : (status ≡ ended → ⊥) → Came read sent status
+  pub came-part : (status ≡ ended → ⊥) → CameTo read sent status
   came-part n =
-      record { at-end = λ e. absurd (n e); read-failed = λ _ h. part-told (none-left h); write-failed = λ _. inr (u .waiting, part-told (u .stands)) }
+      record {
+        at-end = λ e. absurd (n e);
+        read-failed = λ _ h. part-told (none-left h);
+        write-failed = λ _. inr (u .waiting, part-told (u .carries));
+      }
 
 pub came-more : {chunk₀ room₀ marks₀ text₀ chunk room marks text : List ℕ} {read sent status : ℕ} {p : Progress}
-    → Going chunk₀ room₀ marks₀ text₀ chunk room marks text read sent status p → Came read sent status
+    → Going chunk₀ room₀ marks₀ text₀ chunk room marks text read sent status p → CameTo read sent status
 came-more a =
     record {
       at-end = λ e. absurd (let z : ⊥ = omega (arith, a .well) in z);
-      read-failed = λ _ _. part-told (a .stands);
+      read-failed = λ _ _. part-told (a .carries);
       write-failed = λ e. absurd (let z : ⊥ = omega (arith, a .well) in z);
     }

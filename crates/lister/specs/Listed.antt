@@ -3,7 +3,7 @@ use Prim.Native.Nat.{ℕ, _+_, _*_, _≤_}
 use mathlib.Core.Path.{_≡_}
 use mathlib.Core.Logic.{_⊎_}
 use mathlib.Core.List.{List, [], _++_}
-use lib.ListN.{length, drop}
+use lib.ListN.{drop}
 use Rattle.desk.specs.Numbers.{most}
 use Rattle.annexb.specs.Rule.{frame, unitsAtReset}
 use Rattle.counting.specs.Listing.{Listing}
@@ -24,7 +24,7 @@ pub record Ready (zeros chunk room marks text : ℕ) : Type 0 where
 
 -- the bytes `waiting` are read and not yet listed; all before them are listed by pushes and tallies, and the lines of the lengths told
 -- are all the text
-pub record Stands (waiting : List ℕ) (read sent : ℕ) (p : Progress) : Type 0 where
+pub record Carries (waiting : List ℕ) (read sent : ℕ) (p : Progress) : Type 0 where
   pub taken : List ℕ
   pub given : List ℕ
   pub ends : List ℕ
@@ -47,34 +47,34 @@ pub record All (zeros taken chunk status : ℕ) : Type 0 where
 
 -- THE FIRST `taken` BYTES OF A CHUNK ARE LISTED: whatever was listed before, they are behind it, none lost and none twice, and so are their lines
 abbrev pub Lists : List ℕ → ℕ → Progress → ℕ → ℕ → Progress → Type 0
-Lists chunk sent p taken sent′ p′ = (read : ℕ) → Stands chunk read sent p → Stands (drop taken chunk) read sent′ p′
+Lists chunk sent p taken sent′ p′ = (read : ℕ) → Carries chunk read sent p → Carries (drop taken chunk) read sent′ p′
 
 -- after a turn: nothing waits, unless a write failed
 pub record Turned (status read sent : ℕ) (p : Progress) : Type 0 where
   pub good : p .reader .zeros ≤ 2
   pub waiting : List ℕ
-  pub stands : Stands waiting read sent p
+  pub carries : Carries waiting read sent p
   pub none-waits : (status ≡ writeFailed → ⊥) → waiting ≡ []
   pub at-end : status ≡ ended → Ended read
 
 -- ALL THAT WAS READ IS LISTED, TO THE TOTAL
-pub record Whole (read sent : ℕ) : Type 0 where
+pub record WholeText (read sent : ℕ) : Type 0 where
   pub bytes : List ℕ
   pub was-read : Read bytes read
   pub was-sent : Sent (listingTold (unitsAtReset bytes)) sent
 
 abbrev pub Finishes : ℕ → Progress → ℕ → Type 0
-Finishes sent p sent′ = (read : ℕ) → Stands [] read sent p → Whole read sent′
+Finishes sent p sent′ = (read : ℕ) → Carries [] read sent p → WholeText read sent′
 
 -- THE LISTING IS BROKEN OFF: the lines of the units that ended in the bytes listed, and no total; `waiting` was read and is not listed
-pub record Part (waiting : List ℕ) (read sent : ℕ) : Type 0 where
+pub record PartText (waiting : List ℕ) (read sent : ℕ) : Type 0 where
   pub listed : List ℕ
   pub was-read : Read (listed ++ waiting) read
   pub was-sent : Sent (unitLinesTold (frame listed .closed)) sent
 
 -- WHAT A WHOLE LISTING COMES TO. At the end of the input: the text of the rule's units of all that was read. Where a read failed: the lines of
 -- the units that ended in all that was read, and no total. Where a write failed, at whatever text: what was handed to it was right.
-pub record Came (read sent status : ℕ) : Type 0 where
-  pub at-end : status ≡ ended → Ended read × Whole read sent
-  pub read-failed : (status ≡ ended → ⊥) → (status ≡ writeFailed → ⊥) → Part [] read sent
-  pub write-failed : status ≡ writeFailed → (Whole read sent) ⊎ ((waiting : List ℕ) × Part waiting read sent)
+pub record CameTo (read sent status : ℕ) : Type 0 where
+  pub at-end : status ≡ ended → Ended read × WholeText read sent
+  pub read-failed : (status ≡ ended → ⊥) → (status ≡ writeFailed → ⊥) → PartText [] read sent
+  pub write-failed : status ≡ writeFailed → (WholeText read sent) ⊎ ((waiting : List ℕ) × PartText waiting read sent)

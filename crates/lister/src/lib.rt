@@ -10,7 +10,7 @@ mod text;
 ghost use mathlib.Core.Path.{_≡_};
 ghost use Prim.Native.Nat.{_≤_};
 ghost use lib.ListN.{length};
-ghost use Rattle.lister.specs.Listed.{Ready, Stands, Some, All, Lists, Turned, Finishes, Came};
+ghost use Rattle.lister.specs.Listed.{Ready, Carries, Some, All, Lists, Turned, Finishes, CameTo};
 ghost use mathlib.Core.List.{[]};
 ghost use Rattle.lister.specs.System.{more, KeptOrFailed, Read, Sent};
 use annexb::AnnexBReader;
@@ -116,7 +116,7 @@ fn turn(
 ) -> Progress
     requires { ⌜ now status ≡ more ⌝ }
     requires { ⌜ Ready (p .reader .zeros) (length (now chunk)) (length (now room)) (length (now marks)) (length (now text)) ⌝ }
-    requires { ⌜ (1 ≤ length (now chunk)) × Stands [] (now read) (now sent) p ⌝ }
+    requires { ⌜ (1 ≤ length (now chunk)) × Carries [] (now read) (now sent) p ⌝ }
     ensures { λ r. ⌜ Turned (now (status .exit)) (now (read .exit)) (now (sent .exit)) r ⌝ }
 {
     let got = system::take_in(chunk, read);
@@ -165,7 +165,7 @@ fn list_all(
     requires { ⌜ now status ≡ more ⌝ }
     requires { ⌜ Ready 0 (length (now chunk)) (length (now room)) (length (now marks)) (length (now text)) ⌝ }
     requires { ⌜ (1 ≤ length (now chunk)) × Read [] (now read) × Sent [] (now sent) ⌝ }
-    ensures { λ _. ⌜ Came (now (read .exit)) (now (sent .exit)) (now (status .exit)) ⌝ }
+    ensures { λ _. ⌜ CameTo (now (read .exit)) (now (sent .exit)) (now (status .exit)) ⌝ }
 {
     let mut progress = Progress {
         reader: AnnexBReader::new(),

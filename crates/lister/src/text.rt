@@ -1,5 +1,4 @@
 // The listing's lines, in ASCII, one behind another in a buffer.
-ghost use mathlib.Core.Path.{_≡_};
 ghost use Prim.Native.Nat.{_+_, _*_, _≤_};
 ghost use lib.ListN.{length, take};
 ghost use Rattle.lister.specs.Text.{decimal, unitLine, totalLine, linesBy, modulo};

@@ -36,7 +36,7 @@ turn-requires c κs =
       v .well,
       (
         still-ready (g .0) (v .good) (omega (arith, v .chunk-long)) (v .room-long) (v .marks-long) (v .text-long),
-        (omega (arith, v .chunk-long, g .1 .0), v .stands),
+        (omega (arith, v .chunk-long, g .1 .0), v .carries),
       ),
     )
 
