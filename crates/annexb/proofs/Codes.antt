@@ -4,11 +4,11 @@ use native.Mathlib.Omega.{arith}
 use mathlib.Core.Path.{_≡_, refl, ap, ap₂, sym, _∙_}
 use mathlib.Core.Bool.{Bool, true, false, _&&_, and-true, and-false}
 use mathlib.Core.List.{List, [], _∷_, _++_, append-assoc}
-use Rattle.desk.specs.Search.{trail, shown}
+use Rattle.desk.specs.Search.{trail, unheld}
 use Rattle.desk.specs.Zeros.{two, oneMore}
 use Rattle.desk.proofs.Search.{trail-more}
 use Rattle.desk.proofs.Choice.{cond-by}
-use Rattle.annexb.specs.Rule.{Frame, unended, behind, frameFrom}
+use Rattle.annexb.specs.Rule.{Frame, unended, endedBefore, frameFrom}
 use Rattle.annexb.proofs.Framing.{split, onByte, frame-more}
 
 two-full : (z : ℕ) → two z ≡ true → 2 ≡ oneMore z
@@ -19,7 +19,7 @@ two-full (suc z) e = refl
 zero-trail : (o : Bool) (r : List ℕ) → trail (onByte o r 0 .rest) ≡ oneMore (trail r)
 zero-trail false r = rw (and-false (two (trail r))) (trail-more r 0)
 zero-trail true r =
-    cond-by (λ (f : Frame). trail (f .rest) ≡ oneMore (trail r)) (two (trail r) && true) (behind (shown r ∷ []) (unended false (0 ∷ 0 ∷ 0 ∷ [])))
+    cond-by (λ (f : Frame). trail (f .rest) ≡ oneMore (trail r)) (two (trail r) && true) (endedBefore (unheld r ∷ []) (unended false (0 ∷ 0 ∷ 0 ∷ [])))
     (unended true (r ++ 0 ∷ []))
     (λ e. two-full (trail r) (sym (and-true (two (trail r))) ∙ e))
     (λ e. trail-more r 0)
@@ -59,11 +59,11 @@ by-one : (h : List ℕ) → ((h ++ 0 ∷ []) ++ 0 ∷ []) ++ 1 ∷ [] ≡ h ++ c
 by-one h = simp append-assoc
 
 -- THE FRAME BEHIND A START CODE: the units that ended up to it, and then what the bytes t are framed as from just inside a unit
-pub after-code : (o : Bool) (h t : List ℕ) → frameFrom o (h ++ 0 ∷ 0 ∷ 1 ∷ t) ≡ behind (frameFrom o (h ++ code) .closed) (frameFrom true t)
+pub after-code : (o : Bool) (h t : List ℕ) → frameFrom o (h ++ 0 ∷ 0 ∷ 1 ∷ t) ≡ endedBefore (frameFrom o (h ++ code) .closed) (frameFrom true t)
 after-code o h t =
     let c = code-opens o h in
     let i : frameFrom o (h ++ code) .inUnit ≡ true = ap (λ (l : List ℕ). frameFrom o l .inUnit) (sym (by-one h)) ∙ c .in-unit in
     let r : frameFrom o (h ++ code) .rest ≡ [] = ap (λ (l : List ℕ). frameFrom o l .rest) (sym (by-one h)) ∙ c .fresh in
     ap (frameFrom o) (sym (append-assoc h code t))
     ∙ split o (h ++ code) t
-    ∙ ap₂ (λ (b : Bool) (l : List ℕ). behind (frameFrom o (h ++ code) .closed) (frameFrom b (l ++ t))) i r
+    ∙ ap₂ (λ (b : Bool) (l : List ℕ). endedBefore (frameFrom o (h ++ code) .closed) (frameFrom b (l ++ t))) i r

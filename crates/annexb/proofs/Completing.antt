@@ -8,9 +8,9 @@ use mathlib.Core.Bool.{Bool, true, false, cond, _&&_}
 use mathlib.Core.List.{List, [], _∷_, _++_, append-assoc, append-nil}
 use lib.ListN.{length, replicate, length-append, length-replicate}
 use borrow.Author.Tests.{eqb-false, le-leb}
-use Rattle.desk.specs.Search.{trail, shown}
+use Rattle.desk.specs.Search.{trail, unheld}
 use Rattle.desk.specs.Push.{Answer, answers}
-use Rattle.desk.proofs.Search.{shown-held}
+use Rattle.desk.proofs.Search.{unheld-held}
 use Rattle.desk.proofs.Choice.{cond-ind, cond-by}
 use Rattle.annexb.specs.declared.AnnexBReader.{AnnexBReader}
 use Rattle.annexb.specs.Rule.{Frame, joined, endsFrom}
@@ -64,11 +64,11 @@ completed us false r =
       state-new = refl;
     }
 completed us true r =
-    let whole : joined us ++ shown r ++ replicate (trail r) 0 ≡ joined us ++ r =
-    append-assoc (joined us) (shown r) (replicate (trail r) 0) ∙ ap (λ (l : List ℕ). joined us ++ l) (shown-held r) in
-    let n : length (joined us ++ shown r) + trail r ≡ 0 + length (joined us) + length r =
-    ap (λ (k : ℕ). length (joined us ++ shown r) + k) (sym (length-replicate (trail r) 0))
-    ∙ sym (length-append (joined us ++ shown r) (replicate (trail r) 0)) ∙ ap length whole ∙ length-append (joined us) r
+    let whole : joined us ++ unheld r ++ replicate (trail r) 0 ≡ joined us ++ r =
+    append-assoc (joined us) (unheld r) (replicate (trail r) 0) ∙ ap (λ (l : List ℕ). joined us ++ l) (unheld-held r) in
+    let n : length (joined us ++ unheld r) + trail r ≡ 0 + length (joined us) + length r =
+    ap (λ (k : ℕ). length (joined us ++ unheld r) + k) (sym (length-replicate (trail r) 0))
+    ∙ sym (length-append (joined us ++ unheld r) (replicate (trail r) 0)) ∙ ap length whole ∙ length-append (joined us) r
     ∙ ap (λ (k : ℕ). k + length r) (sym (zero-add (length (joined us)))) in
     record {
       bytes-all = whole ∙ ap (λ (l : List ℕ). joined us ++ l) (sym (append-nil r)) ∙ sym (joined-append us (r ∷ []));

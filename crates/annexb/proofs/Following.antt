@@ -7,13 +7,13 @@ use mathlib.Core.Bool.{Bool, true, false, cond, _&&_, and-true}
 use mathlib.Core.List.{List, [], _∷_, _++_, append-assoc, append-nil}
 use mathlib.Core.Option.{Option·some-injective}
 use lib.ListN.{length, replicate, length-append}
-use Rattle.desk.specs.Search.{is0, is1, upTo1, trail, shown}
+use Rattle.desk.specs.Search.{is0, is1, upTo1, trail, unheld}
 use Rattle.desk.specs.Zeros.{two, zerosAfter}
 use Rattle.desk.specs.Push.{seen, seenAfter, Follows}
-use Rattle.desk.proofs.Search.{trail-more, shown-other, shown-zero}
+use Rattle.desk.proofs.Search.{trail-more, unheld-other, unheld-zero}
 use Rattle.desk.proofs.Choice.{ap-cond}
 use Rattle.annexb.specs.declared.AnnexBReader.{AnnexBReader}
-use Rattle.annexb.specs.Rule.{Frame, unended, behind, frameFrom, joined, endsFrom}
+use Rattle.annexb.specs.Rule.{Frame, unended, endedBefore, frameFrom, joined, endsFrom}
 use Rattle.annexb.specs.Seen.{at, stateIn, seenIn, rule}
 use Rattle.annexb.specs.Step.{step, stepping}
 use Rattle.annexb.proofs.Framing.{reopened, onByte, frame-more}
@@ -34,61 +34,61 @@ ends-append k (u ∷ us) vs =
 
 -- outside: nothing is handed out
 out-seen : (us : List (List ℕ)) (r : List ℕ) (b : ℕ) (c : Bool)
-    → seenIn (behind us (cond c (unended true []) (unended false (r ++ b ∷ []))))
-    ≡ seenAfter (seenIn (behind us (unended false r)))
+    → seenIn (endedBefore us (cond c (unended true []) (unended false (r ++ b ∷ []))))
+    ≡ seenAfter (seenIn (endedBefore us (unended false r)))
     (cond c (record { after = at true 0; bytes = []; mark = false }) (record { after = at false (zerosAfter (trail r) b); bytes = []; mark = false }))
 out-seen us r b true = λ i. seen (at true 0) (sym (append-nil (joined (us ++ []) ++ [])) i) (sym (append-nil (endsFrom 0 (us ++ []))) i)
 out-seen us r b false =
     λ i. seen (at false (trail-more r b i)) (sym (append-nil (joined (us ++ []) ++ [])) i) (sym (append-nil (endsFrom 0 (us ++ []))) i)
 
-opened : (b : ℕ) → cond (is1 b) (shown (reopened b)) [] ≡ []
+opened : (b : ℕ) → cond (is1 b) (unheld (reopened b)) [] ≡ []
 opened zero = refl
 opened (suc zero) = refl
 opened (suc (suc b)) = refl
 
 -- in a unit: it ends
 end-seen : (us : List (List ℕ)) (r : List ℕ) (b : ℕ)
-    → seenIn (behind us (behind (shown r ∷ []) (unended (is1 b) (reopened b))))
-    ≡ seenAfter (seenIn (behind us (unended true r))) (record { after = at (is1 b) (cond (is0 b) 2 0); bytes = []; mark = true })
+    → seenIn (endedBefore us (endedBefore (unheld r ∷ []) (unended (is1 b) (reopened b))))
+    ≡ seenAfter (seenIn (endedBefore us (unended true r))) (record { after = at (is1 b) (cond (is0 b) 2 0); bytes = []; mark = true })
 end-seen us r b =
-    let j : joined (us ++ shown r ∷ []) ≡ joined (us ++ []) ++ shown r =
-    joined-append us (shown r ∷ []) ∙ ap₂ _++_ (ap joined (sym (append-nil us))) (append-nil (shown r)) in
+    let j : joined (us ++ unheld r ∷ []) ≡ joined (us ++ []) ++ unheld r =
+    joined-append us (unheld r ∷ []) ∙ ap₂ _++_ (ap joined (sym (append-nil us))) (append-nil (unheld r)) in
     let k : joined us ≡ joined (us ++ []) = ap joined (sym (append-nil us)) in
-    let n : 0 + length (joined us) + length (shown r) ≡ length (joined (us ++ []) ++ shown r) =
-    ap (λ (x : ℕ). x + length (shown r)) (zero-add (length (joined us)) ∙ ap length k) ∙ sym (length-append (joined (us ++ [])) (shown r)) in
+    let n : 0 + length (joined us) + length (unheld r) ≡ length (joined (us ++ []) ++ unheld r) =
+    ap (λ (x : ℕ). x + length (unheld r)) (zero-add (length (joined us)) ∙ ap length k) ∙ sym (length-append (joined (us ++ [])) (unheld r)) in
     λ i. seen (at (is1 b) (ap-cond trail (is0 b) (0 ∷ 0 ∷ 0 ∷ []) [] i))
     (ap₂ _++_ j (opened b) i)
-    ((ends-append 0 us (shown r ∷ []) ∙ ap₂ (λ (l : List ℕ) (x : ℕ). l ++ x ∷ []) (ap (endsFrom 0) (sym (append-nil us))) n) i)
+    ((ends-append 0 us (unheld r ∷ []) ∙ ap₂ (λ (l : List ℕ) (x : ℕ). l ++ x ∷ []) (ap (endsFrom 0) (sym (append-nil us))) n) i)
 
 -- or takes the byte
 in-seen : (us : List (List ℕ)) (r : List ℕ) (b : ℕ) → (two (trail r) && upTo1 b) ≡ false
-    → seenIn (behind us (unended true (r ++ b ∷ [])))
-    ≡ seenAfter (seenIn (behind us (unended true r)))
+    → seenIn (endedBefore us (unended true (r ++ b ∷ [])))
+    ≡ seenAfter (seenIn (endedBefore us (unended true r)))
     (record { after = at true (zerosAfter (trail r) b); bytes = cond (is0 b) [] (replicate (trail r) 0 ++ b ∷ []); mark = false })
 in-seen us r zero e =
-    let s : shown (r ++ 0 ∷ []) ≡ shown r = shown-zero r (sym (and-true (two (trail r))) ∙ e) in
-    λ i. seen (at true (trail-more r 0 i)) ((ap (λ (l : List ℕ). joined (us ++ []) ++ l) s ∙ sym (append-nil (joined (us ++ []) ++ shown r))) i)
+    let s : unheld (r ++ 0 ∷ []) ≡ unheld r = unheld-zero r (sym (and-true (two (trail r))) ∙ e) in
+    λ i. seen (at true (trail-more r 0 i)) ((ap (λ (l : List ℕ). joined (us ++ []) ++ l) s ∙ sym (append-nil (joined (us ++ []) ++ unheld r))) i)
     (sym (append-nil (endsFrom 0 (us ++ []))) i)
 in-seen us r (suc b) e =
     let s =
-    ap (λ (l : List ℕ). joined (us ++ []) ++ l) (shown-other r b)
-    ∙ sym (append-assoc (joined (us ++ [])) (shown r) (replicate (trail r) 0 ++ suc b ∷ [])) in
+    ap (λ (l : List ℕ). joined (us ++ []) ++ l) (unheld-other r b)
+    ∙ sym (append-assoc (joined (us ++ [])) (unheld r) (replicate (trail r) 0 ++ suc b ∷ [])) in
     λ i. seen (at true (trail-more r (suc b) i)) (s i) (sym (append-nil (endsFrom 0 (us ++ []))) i)
 
 byte-seen : (us : List (List ℕ)) (o : Bool) (r : List ℕ) (b : ℕ)
-    → seenIn (behind us (onByte o r b)) ≡ seenAfter (seenIn (behind us (unended o r))) (step (at o (trail r)) b)
+    → seenIn (endedBefore us (onByte o r b)) ≡ seenAfter (seenIn (endedBefore us (unended o r))) (step (at o (trail r)) b)
 byte-seen us false r b = out-seen us r b (two (trail r) && is1 b)
 byte-seen us true r b = go (two (trail r) && upTo1 b) refl
   where
     go : (c : Bool) → (two (trail r) && upTo1 b) ≡ c
-        → seenIn (behind us (cond c (behind (shown r ∷ []) (unended (is1 b) (reopened b))) (unended true (r ++ b ∷ []))))
-        ≡ seenAfter (seenIn (behind us (unended true r)))
+        → seenIn (endedBefore us (cond c (endedBefore (unheld r ∷ []) (unended (is1 b) (reopened b))) (unended true (r ++ b ∷ []))))
+        ≡ seenAfter (seenIn (endedBefore us (unended true r)))
         (cond c (record { after = at (is1 b) (cond (is0 b) 2 0); bytes = []; mark = true })
         (record { after = at true (zerosAfter (trail r) b); bytes = cond (is0 b) [] (replicate (trail r) 0 ++ b ∷ []); mark = false }))
     go true e = end-seen us r b
     go false e = in-seen us r b e
 
-frame-nil : (f : Frame) → behind (f .closed) (unended (f .inUnit) (f .rest)) ≡ f
+frame-nil : (f : Frame) → endedBefore (f .closed) (unended (f .inUnit) (f .rest)) ≡ f
 frame-nil f i = record { closed = append-nil (f .closed) i; inUnit = f .inUnit; rest = f .rest }
 
 pub step-seen : (o : Bool) (h : List ℕ) (b : ℕ)

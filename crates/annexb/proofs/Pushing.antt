@@ -10,7 +10,7 @@ use lib.Seq.{length-take-le}
 use borrow.Author.Tests.{ltb-false}
 use borrow.Rule.Slice.PartMut.{midOf, putMid}
 use Rattle.desk.specs.Numbers.{entryOf}
-use Rattle.desk.specs.Room.{written}
+use Rattle.desk.specs.Room.{withFront}
 use Rattle.desk.specs.Push.{Out, answers, marked, run}
 use Rattle.desk.proofs.Entering.{entry-passed}
 use Rattle.desk.proofs.Pushing.{wrote, Going, sofar, going-more, gives, gives-refused, stop-full, stop-full-marks}
@@ -18,11 +18,11 @@ use Rattle.annexb.specs.declared.AnnexBReader.{AnnexBReader}
 use Rattle.annexb.specs.declared.Pushed.{Pushed}
 use Rattle.annexb.specs.declared.Stepped.{Stepped}
 use Rattle.annexb.specs.Answer.{entering, FramePush, gave, alone}
-use Rattle.annexb.specs.Step.{step, stepping, released, Does}
+use Rattle.annexb.specs.Step.{step, stepping, releasedBytes, StepsAs}
 use Rattle.annexb.proofs.Stepping.{step-few}
 
 -- the loop's invariant
-pub record Reading (chunk out₀ marks₀ : List ℕ) (s₀ : AnnexBReader) (out marks : List ℕ) (s : AnnexBReader) (t w m : ℕ) : Type 0 where
+pub record ReadingSo (chunk out₀ marks₀ : List ℕ) (s₀ : AnnexBReader) (out marks : List ℕ) (s : AnnexBReader) (t w m : ℕ) : Type 0 where
   pub going : Going stepping chunk out₀ marks₀ s₀ out marks s t w m
   pub few : s .zeros ≤ 2
 
@@ -44,20 +44,20 @@ one-most : (c : Bool) (n : ℕ) → n ≡ cond c 1 0 → n ≤ 1
 one-most true n e = omega arith
 one-most false n e = omega arith
 
-pub ends-few : {o : Out AnnexBReader} {b : ℕ} {r : Stepped} → Does o b r → r .ends ≤ 1
+pub ends-few : {o : Out AnnexBReader} {b : ℕ} {r : Stepped} → StepsAs o b r → r .ends ≤ 1
 ends-few {o} {b} {r} d = one-most (o .mark) (r .ends) (d .ends-is)
 
 -- a push that stops where the run does
 pub push-gives : {chunk out₀ marks₀ : List ℕ} {s₀ : AnnexBReader} {out marks : List ℕ} {s : AnnexBReader} {t w m : ℕ}
-    → Reading chunk out₀ marks₀ s₀ out marks s t w m
+    → ReadingSo chunk out₀ marks₀ s₀ out marks s t w m
     → {n : ℕ} {r : Pushed} → n ≡ entering s₀ (length chunk) (length out₀) (length marks₀) → n ≡ 0 → r ≡ gave t w m s
     → run stepping (length out₀) (length marks₀) (answers 0 s₀) chunk ≡ sofar out marks s t w m
     → FramePush s₀ chunk out₀ marks₀ out marks r
 push-gives {chunk} {out₀} {marks₀} {s₀} i e z q k = rw q (gives (i .going) (entering s₀ (length chunk) (length out₀) (length marks₀)) (sym e ∙ z) 0 k)
 
 module _ {chunk out₀ marks₀ : List ℕ} {s₀ : AnnexBReader} {out marks : List ℕ} {s : AnnexBReader} {t w m : ℕ}
-    (i : Reading chunk out₀ marks₀ s₀ out marks s t w m) {b : ℕ} (h : t < length chunk) (e : b ≡ getD chunk t 0) {r : Stepped}
-    (d : Does (step s b) b r) where
+    (i : ReadingSo chunk out₀ marks₀ s₀ out marks s t w m) {b : ℕ} (h : t < length chunk) (e : b ≡ getD chunk t 0) {r : Stepped}
+    (d : StepsAs (step s b) b r) where
   marks-are : replicate (r .ends) w ≡ marked (step s b .mark) (take w out)
   marks-are = mark-is (step s b .mark) (r .ends) w (take w out) (d .ends-is) (length-take-le w out (i .going .out-few))
 
@@ -66,20 +66,20 @@ module _ {chunk out₀ marks₀ : List ℕ} {s₀ : AnnexBReader} {out marks : L
 
   -- the byte is taken
   pub takes : r .count ≤ length out - w → r .ends ≤ length marks - m → (part mpart : List ℕ)
-      → part ≡ written (midOf w (length out - w) out) (released (r .count) b)
-      → mpart ≡ written (midOf m (length marks - m) marks) (replicate (r .ends) w)
-      → Reading chunk out₀ marks₀ s₀ (putMid w (length out - w) out part) (putMid m (length marks - m) marks mpart)
+      → part ≡ withFront (midOf w (length out - w) out) (releasedBytes (r .count) b)
+      → mpart ≡ withFront (midOf m (length marks - m) marks) (replicate (r .ends) w)
+      → ReadingSo chunk out₀ marks₀ s₀ (putMid w (length out - w) out part) (putMid m (length marks - m) marks mpart)
       (r .after) (t + 1) (w + r .count) (m + r .ends)
   takes ho hm part mpart eo em =
-      subst (λ (a : AnnexBReader). Reading chunk out₀ marks₀ s₀ (putMid w (length out - w) out part) (putMid m (length marks - m) marks mpart) a
+      subst (λ (a : AnnexBReader). ReadingSo chunk out₀ marks₀ s₀ (putMid w (length out - w) out part) (putMid m (length marks - m) marks mpart) a
       (t + 1) (w + r .count) (m + r .ends)) (sym (d .after-is))
       (record {
         going =
             going-more (i .going) h e (step s b) refl (r .count) (r .ends) (sym (d .count-is)) marks-count
             (wrote w (r .count) (step s b .bytes) out part (i .going .out-few) ho (sym (d .count-is))
-            (eo ∙ ap (written (midOf w (length out - w) out)) (d .bytes-are)))
+            (eo ∙ ap (withFront (midOf w (length out - w) out)) (d .bytes-are)))
             (wrote m (r .ends) (marked (step s b .mark) (take w out)) marks mpart (i .going .marks-few) hm marks-count
-            (em ∙ ap (written (midOf m (length marks - m) marks)) marks-are));
+            (em ∙ ap (withFront (midOf m (length marks - m) marks)) marks-are));
         few = step-few s b (i .few);
       })
 

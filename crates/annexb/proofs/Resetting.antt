@@ -6,7 +6,7 @@ use mathlib.Core.List.{List, [], _∷_}
 use lib.Dec.{leb}
 use lib.ListN.{length, replicate, length-replicate}
 use borrow.Author.Tests.{le-leb, lt-leb, ne-eqb}
-use Rattle.desk.specs.Room.{written}
+use Rattle.desk.specs.Room.{withFront}
 use Rattle.desk.specs.Push.{Answer, answers}
 use Rattle.desk.proofs.Pushing.{gives-alone}
 use Rattle.annexb.specs.declared.AnnexBReader.{AnnexBReader}
@@ -46,8 +46,8 @@ module _ (s : AnnexBReader) (out marks : List ℕ) {n : ℕ} (e : n ≡ entering
       pub reset-no-mark : length marks < 1 → Resets out marks (alone 10 s)
       reset-no-mark h = reset-10 (rw (lt-leb 1 (length marks) h) (and-false (leb (s .zeros) (length out))))
 
-      pub reset-ends : (out′ marks′ : List ℕ) → s .zeros ≤ length out → 1 ≤ length marks → out′ ≡ written out (replicate (s .zeros) 0)
-          → marks′ ≡ written marks (s .zeros ∷ [])
+      pub reset-ends : (out′ marks′ : List ℕ) → s .zeros ≤ length out → 1 ≤ length marks → out′ ≡ withFront out (replicate (s .zeros) 0)
+          → marks′ ≡ withFront marks (s .zeros ∷ [])
           → Resets out′ marks′ (gave 0 (s .zeros) 1 new)
       unfolding closing
       reset-ends out′ marks′ a b p q =

@@ -10,19 +10,19 @@ use Rattle.desk.specs.Push.{Out}
 use Rattle.desk.proofs.Choice.{cond-ind}
 use Rattle.annexb.specs.declared.AnnexBReader.{AnnexBReader}
 use Rattle.annexb.specs.Seen.{at}
-use Rattle.annexb.specs.Step.{inStep, outStep, step, stepped, Does}
+use Rattle.annexb.specs.Step.{inStep, outStep, step, steppedTo, StepsAs}
 
 -- a third byte 00 or 01 behind two zeros: of an end in a unit, of a start outside one
-pub two-zeros : (o : Bool) → Does (step (at o 2) 0) 0 (stepped false 2 0 (boolByte o))
+pub two-zeros : (o : Bool) → StepsAs (step (at o 2) 0) 0 (steppedTo false 2 0 (boolByte o))
 two-zeros false = record { after-is = refl; count-is = refl; bytes-are = refl; ends-is = refl }
 two-zeros true = record { after-is = refl; count-is = refl; bytes-are = refl; ends-is = refl }
 
-pub two-one : (o : Bool) → Does (step (at o 2) 1) 1 (stepped true 0 0 (boolByte o))
+pub two-one : (o : Bool) → StepsAs (step (at o 2) 1) 1 (steppedTo true 0 0 (boolByte o))
 two-one false = record { after-is = refl; count-is = refl; bytes-are = refl; ends-is = refl }
 two-one true = record { after-is = refl; count-is = refl; bytes-are = refl; ends-is = refl }
 
 -- a zero that ends nothing
-pub zero-does : (o : Bool) (z : ℕ) → z ≤ 2 → (z ≡ 2 → ⊥) → Does (step (at o z) 0) 0 (stepped o (z + 1) 0 0)
+pub zero-does : (o : Bool) (z : ℕ) → z ≤ 2 → (z ≡ 2 → ⊥) → StepsAs (step (at o z) 0) 0 (steppedTo o (z + 1) 0 0)
 zero-does false zero h n = record { after-is = refl; count-is = refl; bytes-are = refl; ends-is = refl }
 zero-does false (suc zero) h n = record { after-is = refl; count-is = refl; bytes-are = refl; ends-is = refl }
 zero-does true zero h n = record { after-is = refl; count-is = refl; bytes-are = refl; ends-is = refl }
@@ -31,7 +31,7 @@ zero-does o (suc (suc z)) h n = let x : ⊥ = n (omega arith) in absurd x
 
 -- a byte that is no zero and no end
 pub other-does : (o : Bool) (z b : ℕ) → z ≤ 2 → (b ≡ 0 → ⊥) → (z ≡ 2 → b ≡ 1 → ⊥)
-    → Does (step (at o z) b) b (cond o (stepped true 0 (z + 1) 0) (stepped false 0 0 0))
+    → StepsAs (step (at o z) b) b (cond o (steppedTo true 0 (z + 1) 0) (steppedTo false 0 0 0))
 other-does o z zero h n m = absurd (n refl)
 other-does false zero (suc b) h n m = record { after-is = refl; count-is = refl; bytes-are = refl; ends-is = refl }
 other-does true zero (suc b) h n m = record { after-is = refl; count-is = refl; bytes-are = refl; ends-is = refl }

@@ -8,11 +8,11 @@ use lib.ListN.{length, take, drop}
 use lib.Seq.{take-length}
 use borrow.Author.Tests.{le-ltb}
 use Rattle.desk.specs.Push.{Pushes, shifted, Seen}
-use Rattle.desk.specs.Room.{written}
+use Rattle.desk.specs.Room.{withFront}
 use Rattle.desk.proofs.Cutting.{taken-front, pushed-few}
 use Rattle.desk.proofs.Entering.{entry-done}
 use Rattle.desk.proofs.Lists.{trail-few}
-use Rattle.desk.proofs.Ways.{outcome}
+use Rattle.desk.proofs.Ways.{an-outcome}
 use Rattle.annexb.specs.declared.AnnexBReader.{AnnexBReader}
 use Rattle.annexb.specs.declared.Pushed.{Pushed}
 use Rattle.annexb.specs.Rule.{frame}
@@ -31,10 +31,10 @@ pub reset-way : (s : AnnexBReader) → s .zeros ≤ 2 → ResetWay s
 reset-way s k =
     let a = resetAnswer s 2 1 in
     record {
-      room′ = written (0 ∷ 0 ∷ []) (a .bytes);
-      marks′ = written (0 ∷ []) (a .marks);
+      room′ = withFront (0 ∷ 0 ∷ []) (a .bytes);
+      marks′ = withFront (0 ∷ []) (a .marks);
       closed = record { number = a .number; taken = a .taken; written = length (a .bytes); marked = length (a .marks); state = a .after };
-      reset = outcome a (0 ∷ 0 ∷ []) (0 ∷ []);
+      reset = an-outcome a (0 ∷ 0 ∷ []) (0 ∷ []);
       done =
           reset-done s 2 1 (entry-done (0 ∷ 2 ∷ 1 ∷ []) (ltb 2 (s .zeros)) (zero-le, (omega arith, (omega arith, tt))) (le-ltb 2 (s .zeros) k)) k
           (omega arith);

@@ -34,17 +34,17 @@ abbrev pub stepping : Next AnnexBReader
 stepping s b = some (step s b)
 
 -- what a byte releases, by their number: zeros, and the byte last
-abbrev pub released : ℕ → ℕ → List ℕ
-released zero b = []
-released (suc n) b = replicate n 0 ++ b ∷ []
+abbrev pub releasedBytes : ℕ → ℕ → List ℕ
+releasedBytes zero b = []
+releasedBytes (suc n) b = replicate n 0 ++ b ∷ []
 
 -- a step's answer, as the code makes it
-abbrev pub stepped : Bool → ℕ → ℕ → ℕ → Stepped
-stepped o z count ends = record { after = at o z; count = count; ends = ends }
+abbrev pub steppedTo : Bool → ℕ → ℕ → ℕ → Stepped
+steppedTo o z count ends = record { after = at o z; count = count; ends = ends }
 
 -- what the code's step answers of it
-pub record Does (o : Out AnnexBReader) (b : ℕ) (r : Stepped) : Type 0 where
+pub record StepsAs (o : Out AnnexBReader) (b : ℕ) (r : Stepped) : Type 0 where
   pub after-is : r .after ≡ o .after
   pub count-is : r .count ≡ length (o .bytes)
-  pub bytes-are : released (r .count) b ≡ o .bytes
+  pub bytes-are : releasedBytes (r .count) b ≡ o .bytes
   pub ends-is : r .ends ≡ cond (o .mark) 1 0

@@ -2,9 +2,9 @@
 ghost use mathlib.Core.Path.{_≡_};
 ghost use Prim.Native.Nat.{_≤_};
 ghost use lib.ListN.{length, replicate};
-ghost use Rattle.desk.specs.Room.{written};
+ghost use Rattle.desk.specs.Room.{withFront};
 ghost use Rattle.annexb.specs.Seen.{new};
-ghost use Rattle.annexb.specs.Step.{step, stepped, released, Does};
+ghost use Rattle.annexb.specs.Step.{step, steppedTo, releasedBytes, StepsAs};
 ghost use Rattle.annexb.specs.Answer.{FramePush, FrameReset, gave, alone};
 
 // The reader between two calls: in a unit or not, and the zeros that the next byte decides on.
@@ -32,7 +32,7 @@ struct Stepped {
 }
 
 fn does(in_unit: bool, zeros: u8, count: usize, ends: usize) -> Stepped
-    ensures { λ r. ⌜ r ≡ stepped «in_unit» zeros count ends ⌝ }
+    ensures { λ r. ⌜ r ≡ steppedTo «in_unit» zeros count ends ⌝ }
 {
     Stepped {
         after: AnnexBReader { in_unit, zeros },
@@ -46,7 +46,7 @@ fn does(in_unit: bool, zeros: u8, count: usize, ends: usize) -> Stepped
 // held, and itself.
 fn step(s: AnnexBReader, b: u8) -> Stepped
     requires { ⌜ s .zeros ≤ 2 ⌝ }
-    ensures { λ r. ⌜ Does (step s b) b r ⌝ }
+    ensures { λ r. ⌜ StepsAs (step s b) b r ⌝ }
 {
     let zeros = s.zeros;
     if zeros == 2 {
@@ -68,7 +68,7 @@ fn step(s: AnnexBReader, b: u8) -> Stepped
 // Writes n zeros at the front of the room.
 fn put_zeros(room: &mut [u8], n: usize)
     requires { ⌜ n ≤ length (now room) ⌝ }
-    ensures { λ _. ⌜ now (room .exit) ≡ written (now (room .entry)) (replicate n 0) ⌝ }
+    ensures { λ _. ⌜ now (room .exit) ≡ withFront (now (room .entry)) (replicate n 0) ⌝ }
 {
     let mut i = 0;
     while i < n {
@@ -80,7 +80,7 @@ fn put_zeros(room: &mut [u8], n: usize)
 // Writes what a byte releases, count bytes of which it is the last, at the front of the room.
 fn put(room: &mut [u8], count: usize, b: u8)
     requires { ⌜ count ≤ length (now room) ⌝ }
-    ensures { λ _. ⌜ now (room .exit) ≡ written (now (room .entry)) (released count b) ⌝ }
+    ensures { λ _. ⌜ now (room .exit) ≡ withFront (now (room .entry)) (releasedBytes count b) ⌝ }
 {
     if count == 0 {
         return;
@@ -93,7 +93,7 @@ fn put(room: &mut [u8], count: usize, b: u8)
 // Writes a mark, where there is one, at the front of the room.
 fn put_mark(room: &mut [u64], count: usize, mark: u64)
     requires { ⌜ (count ≤ 1) × (count ≤ length (now room)) ⌝ }
-    ensures { λ _. ⌜ now (room .exit) ≡ written (now (room .entry)) (replicate count mark) ⌝ }
+    ensures { λ _. ⌜ now (room .exit) ≡ withFront (now (room .entry)) (replicate count mark) ⌝ }
 {
     if count == 1 {
         room[0] = mark;

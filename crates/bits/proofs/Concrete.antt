@@ -21,9 +21,9 @@ use Rattle.bits.proofs.Reading.{bits-codes, bit-codes, ue-codes, bits-o
 use Rattle.bits.proofs.Refusing.{ue-refuse}
 
 -- the first i bytes as one number
-abbrev pub joined : List ℕ → ℕ → ℕ
-joined s zero = 0
-joined s (suc i) = joined s i * 256 + getD s i 0
+abbrev pub bytesNumber : List ℕ → ℕ → ℕ
+bytesNumber s zero = 0
+bytesNumber s (suc i) = bytesNumber s i * 256 + getD s i 0
 
 -- each is a byte
 abbrev pub bytes : List ℕ → Bool
@@ -35,7 +35,7 @@ byte-at [] h i = omega arith
 byte-at (b ∷ s) h zero = ltb-true b 256 (and-left (ltb b 256) (bytes s) h)
 byte-at (b ∷ s) h (suc i) = byte-at s (and-right (ltb b 256) (bytes s) h) i
 
-joined-is : (s : List ℕ) → bytes s ≡ true → (i : ℕ) → valueAt s 0 (8 * i) ≡ joined s i
+joined-is : (s : List ℕ) → bytes s ≡ true → (i : ℕ) → valueAt s 0 (8 * i) ≡ bytesNumber s i
 joined-is s h zero = value-zero s 0
 joined-is s h (suc i) =
     let e : 8 * suc i ≡ 8 * i + 8 = omega arith in
@@ -44,7 +44,7 @@ joined-is s h (suc i) =
 
 -- the n bits at p of the bytes s, as a number
 abbrev pub field : List ℕ → ℕ → ℕ → ℕ
-field s p n = joined s (length s) / 2 ^ (size s - (p + n)) % 2 ^ n
+field s p n = bytesNumber s (length s) / 2 ^ (size s - (p + n)) % 2 ^ n
 
 -- they are there, and make v
 abbrev pub makes : List ℕ → ℕ → ℕ → ℕ → Bool
@@ -91,10 +91,10 @@ flag-here s p false h =
     let m = made s p 1 0 h in bit-codes .gives s p false (m .entered) tt (subst (Stands s p) (bits-of-bit 0 (omega arith)) (m .stands))
 
 -- ue(v): z zeros, a one and z bits, which are v + 1
-abbrev pub code : ℕ → ℕ → Bool
-code z v = leb z 31 && (leb (2 ^ z) (v + 1) && ltb (v + 1) (2 ^ suc z))
+abbrev pub codeFits : ℕ → ℕ → Bool
+codeFits z v = leb z 31 && (leb (2 ^ z) (v + 1) && ltb (v + 1) (2 ^ suc z))
 
-pub ue-here : (s : List ℕ) (p z v : ℕ) → (makes s p (z + (z + 1)) (v + 1) && code z v) ≡ true → readUe s p ≡ got v (p + (z + (z + 1)))
+pub ue-here : (s : List ℕ) (p z v : ℕ) → (makes s p (z + (z + 1)) (v + 1) && codeFits z v) ≡ true → readUe s p ≡ got v (p + (z + (z + 1)))
 ue-here s p z v h =
     let b = and-right (makes s p (z + (z + 1)) (v + 1)) _ h in
     let c = and-right (leb z 31) _ b in

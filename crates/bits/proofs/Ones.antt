@@ -20,21 +20,21 @@ use Rattle.bits.proofs.Trailing.{trailing-low, trailing-one, trailing-b
 
 -- ---- the first one: z zeros and a one make the number 1
 
-pub first-none : (s : List ℕ) (p n : ℕ) → valueAt s p n ≡ 0 → firstOne s p n ≡ none
+pub first-one-none : (s : List ℕ) (p n : ℕ) → valueAt s p n ≡ 0 → firstOne s p n ≡ none
 unfolding valueAt firstOne
-first-none s p zero h = refl
-first-none s p (suc n) h = simp (first-none s p n (omega arith), ne-eqb (bitAt s (p + n)) 1 (omega arith))
+first-one-none s p zero h = refl
+first-one-none s p (suc n) h = simp (first-one-none s p n (omega arith), ne-eqb (bitAt s (p + n)) 1 (omega arith))
 
 first-here : (s : List ℕ) (p z : ℕ) → valueAt s p (suc z) ≡ 1 → firstOne s p (suc z) ≡ some (p + z)
 unfolding valueAt firstOne
 first-here s p z h =
     let b = bit-lt s (p + z) in
-    simp (first-none s p z (omega arith), eq-eqb (bitAt s (p + z)) 1 (omega arith))
+    simp (first-one-none s p z (omega arith), eq-eqb (bitAt s (p + z)) 1 (omega arith))
 
-pub first-is : (s : List ℕ) (p z r : ℕ) → valueAt s p (suc z) ≡ 1 → firstOne s p (suc z + r) ≡ some (p + z)
+pub first-one-is : (s : List ℕ) (p z r : ℕ) → valueAt s p (suc z) ≡ 1 → firstOne s p (suc z + r) ≡ some (p + z)
 unfolding firstOne
-first-is s p z zero h = ap (firstOne s p) (add-zero (suc z)) ∙ first-here s p z h
-first-is s p z (suc r) h = ap (firstOne s p) (add-suc (suc z) r) ∙ simp (first-is s p z r h)
+first-one-is s p z zero h = ap (firstOne s p) (add-zero (suc z)) ∙ first-here s p z h
+first-one-is s p z (suc r) h = ap (firstOne s p) (add-suc (suc z) r) ∙ simp (first-one-is s p z r h)
 
 -- ---- the last one: a one, and zeros after it
 
@@ -77,7 +77,7 @@ first-top s p i q l hi pos small e =
     let place : p + z ≡ q = omega arith in (
       omega arith,
       omega arith,
-      ap (firstOne s p) (omega arith) ∙ first-is s p z (size s - 8 * i - 8 + j) one ∙ ap {B = Option ℕ} some place,
+      ap (firstOne s p) (omega arith) ∙ first-one-is s p z (size s - 8 * i - 8 + j) one ∙ ap {B = Option ℕ} some place,
     )
 
 pub leading-byte : (b : ℕ) → 0 < b → b < 256 → (24 ≤ leadingZeros 32 b) × (leadingZeros 32 b < 32)
@@ -96,7 +96,7 @@ found-none s p q l e h =
     record {
       from = l;
       within = omega arith;
-      found = simp (le-ltb q (size s) (omega arith)) (first-none s p (size s - p) (ap (λ (k : ℕ). valueAt s p (k - p)) (sym e) ∙ h));
+      found = simp (le-ltb q (size s) (omega arith)) (first-one-none s p (size s - p) (ap (λ (k : ℕ). valueAt s p (k - p)) (sym e) ∙ h));
     }
 
 -- one more byte of zeros, and a byte after zeros

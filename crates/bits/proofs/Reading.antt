@@ -21,7 +21,7 @@ use Rattle.bits.specs.Reading.{Entered, bitCode, AnyBit, Took, ReadsCode
 use Rattle.bits.specs.Reading.{ueEntry, ueNone, ueMany, ueShort, Skipped, WhySkip, skipEntry, skipShort}
 use Rattle.bits.proofs.Entry.{entered, enters, entry-why, unless-by}
 use Rattle.bits.proofs.Value.{value-lt, value-split}
-use Rattle.bits.proofs.Ones.{first-is, top-one}
+use Rattle.bits.proofs.Ones.{first-one-is, top-one}
 use Rattle.bits.proofs.Found.{none-first, first-some}
 use Rattle.bits.proofs.Top.{top-is, prefix}
 use Rattle.bits.proofs.Codes.{length-bits-of, value-stands, stands-value, ue-bits, length-ue, ue-below}
@@ -133,7 +133,7 @@ ue-give s p v g h c =
     let all : valueAt s p (suc m + m) ≡ a =
     ap (valueAt s p) (sym n) ∙ stands-value s p (ueWidth v) a (ue-below v h) (subst (Stands s p) (sym (ue-bits v h)) c) in
     let one : valueAt s p (suc m) ≡ 1 = top-one s p m m (rw all (t .low)) (rw all (t .high)) in
-    let first : firstOne s p (size s - p) ≡ some (p + m) = ap (firstOne s p) (omega arith) ∙ first-is s p m (size s - p - suc m) one in
+    let first : firstOne s p (size s - p) ≡ some (p + m) = ap (firstOne s p) (omega arith) ∙ first-one-is s p m (size s - p - suc m) one in
     let next : p + m + 1 ≡ p + suc m = omega arith in
     let rest : valueAt s (p + m + 1) m ≡ a - 2 ^ m =
     ap (λ (q : ℕ). valueAt s q m) next ∙ omega (arith, value-split s p (suc m) m, all, ap (λ (q : ℕ). q * 2 ^ m) one) in

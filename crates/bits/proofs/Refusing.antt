@@ -12,7 +12,7 @@ use Rattle.bits.specs.Answer.{Ans, no, unless, entryAt, pastEnd, readBit
 use Rattle.bits.specs.Reading.{Entered, WhyEntry, long, past, WhyBits, bitsEntry, bitsWide, bitsShort, OneAfter, WhyUe, ueEntry}
 use Rattle.bits.specs.Reading.{ueNone, ueMany, ueShort, WhySkip, skipEntry, skipShort}
 use Rattle.bits.proofs.Entry.{enters, why-entry}
-use Rattle.bits.proofs.Ones.{first-none, first-is}
+use Rattle.bits.proofs.Ones.{first-one-none, first-one-is}
 use Rattle.bits.proofs.Reading.{bits-refused}
 
 -- ---- the entry checks, for a caller that makes them itself
@@ -43,12 +43,12 @@ unfolding readBit
 bit-refuse w = rw (bits-refuse w)
 
 first-at : (s : List ℕ) (p z : ℕ) → OneAfter s p z → firstOne s p (size s - p) ≡ some (p + z)
-first-at s p z o = let w = o .within in ap (firstOne s p) (omega arith) ∙ first-is s p z (size s - p - suc z) (o .one)
+first-at s p z o = let w = o .within in ap (firstOne s p) (omega arith) ∙ first-one-is s p z (size s - p - suc z) (o .one)
 
 pub ue-refuse : {s : List ℕ} {p k : ℕ} → WhyUe s p k → readUe s p ≡ no k
 unfolding readUe
 ue-refuse (ueEntry w) = entry-no _ w
-ue-refuse {s} {p} (ueNone g h) = simp (enters s p g, first-none s p (size s - p) h)
+ue-refuse {s} {p} (ueNone g h) = simp (enters s p g, first-one-none s p (size s - p) h)
 ue-refuse {s} {p} (ueMany z g o h) =
     let e : p + z - p ≡ z = omega arith in
     simp (enters s p g, first-at s p z o, e, lt-ltb 31 z h)

@@ -11,7 +11,7 @@ use lib.Pow.{pow-add, mod-pow-add, mod-mod-pow, field, high, low, shr-shr, shl-e
 use lib.Arith.{digits-lt}
 use lib.Bits.{bitAnd}
 use Rattle.desk.specs.Numbers.{most}
-use Rattle.bits.specs.Step.{bytesOf, filled, whole, writer, stored, more, wrote, Good, GoodAfter}
+use Rattle.bits.specs.Step.{bytesOf, filled, wholeWith, writer, stored, storedMore, wrote, Good, GoodAfter}
 use Rattle.bits.specs.declared.BitWriter.{BitWriter}
 use Rattle.bits.proofs.Value.{masked}
 
@@ -34,10 +34,10 @@ bytes-at (suc k) x j h = go (bytes-at k (x / 256) j) (eq-or-lt-of-le (le-of-suc-
         getD-at (bytesOf k (x / 256)) (x % 256) [] 0 j (length-bytes k (x / 256) ∙ sym e)
         ∙ ap (λ (y : ℕ). y % 256) (sym (div-one x)) ∙ ap (λ (n : ℕ). x / 2 ^ n % 256) none
     go ih (inr l) =
-        let more : 8 + 8 * (k - 1 - j) ≡ 8 * (suc k - 1 - j) = omega arith in
+        let storedMore : 8 + 8 * (k - 1 - j) ≡ 8 * (suc k - 1 - j) = omega arith in
         List·getD-append (bytesOf k (x / 256)) (x % 256 ∷ []) 0 j (omega (arith, length-bytes k (x / 256)))
         ∙ ih l
-        ∙ ap (λ (y : ℕ). y % 256) (shr-shr x 8 (8 * (k - 1 - j)) ∙ ap (λ (n : ℕ). x / 2 ^ n) more)
+        ∙ ap (λ (y : ℕ). y % 256) (shr-shr x 8 (8 * (k - 1 - j)) ∙ ap (λ (n : ℕ). x / 2 ^ n) storedMore)
 
 -- all bytes pasted
 pub paste-filled : (o : List ℕ) (w k y : ℕ) → paste o w (bytesOf k y) k ≡ filled o w k y
@@ -93,32 +93,32 @@ filled-filled o w j k y z h e =
 
 -- ---- `put`
 
-pub shifted : (p c n : ℕ) → p < 2 ^ c → c ≤ 7 → n ≤ 32 → (p * 2 ^ n) % 2 ^ 64 ≡ p * 2 ^ n
-shifted p c n h l k = shl-exact c n 64 h (omega arith)
+pub shifted-bits : (p c n : ℕ) → p < 2 ^ c → c ≤ 7 → n ≤ 32 → (p * 2 ^ n) % 2 ^ 64 ≡ p * 2 ^ n
+shifted-bits p c n h l k = shl-exact c n 64 h (omega arith)
 
 pub joined-lt : (p c n v : ℕ) → p < 2 ^ c → v < 2 ^ n → p * 2 ^ n + v < 2 ^ (c + n)
 joined-lt p c n v h l = subst (λ (x : ℕ). p * 2 ^ n + v < x) (sym (pow-add 2 c n)) (digits-lt h l)
 
 pub joined-fits : (p c n v : ℕ) → p < 2 ^ c → c ≤ 7 → n ≤ 32 → v < 2 ^ n → (p * 2 ^ n) % 2 ^ 64 + v < 2 ^ 39
 joined-fits p c n v h l k b =
-    rw (shifted p c n h l k) (lt-of-lt-of-le (joined-lt p c n v h b) (pow-mono {i = c + n} {j = 39} (omega arith)))
+    rw (shifted-bits p c n h l k) (lt-of-lt-of-le (joined-lt p c n v h b) (pow-mono {i = c + n} {j = 39} (omega arith)))
 
 pub put-is : (o o′ : List ℕ) (st : BitWriter) (n v : ℕ) → st .pending < 2 ^ st .count → st .count ≤ 7 → n ≤ 32 →
     let x = (st .pending * 2 ^ n) % 2 ^ 64 + v in
     let r = (st .count + n) % 8 in
     o′ ≡ filled o (st .written .0) ((st .count + n) / 8) (x / 2 ^ r)
-    → wrote (writer (whole st n) (bitAnd x ((1 * 2 ^ r) % 2 ^ 64 - 1)) r) o′ ≡ stored o st n v
+    → wrote (writer (wholeWith st n) (bitAnd x ((1 * 2 ^ r) % 2 ^ 64 - 1)) r) o′ ≡ stored o st n v
 unfolding stored
 put-is o o′ st n v h l k e =
     let p = st .pending in
     let c = st .count in
-    let s = shifted p c n h l k in
+    let s = shifted-bits p c n h l k in
     rw (e, masked 64 ((p * 2 ^ n) % 2 ^ 64 + v) ((c + n) % 8) (omega arith), s)
 
 -- ---- two writes are one
 
-pub stored-more : (o : List ℕ) (st : BitWriter) (n a m b : ℕ) → b < 2 ^ m → whole st n ≤ length o
-    → more (stored o st n a) m b ≡ stored o st (n + m) (a * 2 ^ m + b)
+pub stored-more : (o : List ℕ) (st : BitWriter) (n a m b : ℕ) → b < 2 ^ m → wholeWith st n ≤ length o
+    → storedMore (stored o st n a) m b ≡ stored o st (n + m) (a * 2 ^ m + b)
 unfolding stored
 stored-more o st n a m b h l =
     let w = st .written .0 in
@@ -134,7 +134,7 @@ stored-more o st n a m b h l =
     let sum : r₁ + m ≡ 8 * k + r = omega arith in
     let cut : x₂ ≡ x % 2 ^ (8 * k + r) =
     sym (mod-pow-add x r₁ m ∙ ap₂ (λ (u v : ℕ). u % 2 ^ r₁ * 2 ^ m + v) (high x₁ m h) (low x₁ m h)) ∙ ap (λ (i : ℕ). x % 2 ^ i) sum in
-    let whole : p * 2 ^ (n + m) + (a * 2 ^ m + b) ≡ x =
+    let wholeWith : p * 2 ^ (n + m) + (a * 2 ^ m + b) ≡ x =
     ap (λ (y : ℕ). p * y + (a * 2 ^ m + b)) (pow-add 2 n m) ∙ omega (arith, mul-assoc p (2 ^ n) (2 ^ m)) in
     let wj : w + j + k ≡ w + (c + (n + m)) / 8 = omega arith in
     let jk : j + k ≡ (c + (n + m)) / 8 = omega arith in
@@ -146,9 +146,9 @@ stored-more o st n a m b h l =
     (ap (λ (u : ℕ). bytesOf k (u / 2 ^ r)) cut ∙ ap (bytesOf k) (field x (8 * k) r) ∙ bytes-mod k (x / 2 ^ r))
     ∙ filled-filled o w j k (x₁ / 2 ^ r₁) (x / 2 ^ r) l y₁ in
     let pend : x₂ % 2 ^ r ≡ x % 2 ^ r = ap (λ (u : ℕ). u % 2 ^ r) cut ∙ mod-mod-pow x (8 * k) r in
-    rw (y₂, pend, wj, jk, rr, ← whole)
+    rw (y₂, pend, wj, jk, rr, ← wholeWith)
 
-pub stored-good : (o : List ℕ) (st : BitWriter) (n v : ℕ) → length o ≤ most → whole st n ≤ length o
+pub stored-good : (o : List ℕ) (st : BitWriter) (n v : ℕ) → length o ≤ most → wholeWith st n ≤ length o
     → GoodAfter (length o) (8 * st .written .0 + (st .count + n)) (stored o st n v)
 unfolding stored
 stored-good o st n v small l =

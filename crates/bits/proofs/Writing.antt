@@ -15,7 +15,7 @@ use lib.IntN.{ℤ, natAbs}
 use Rattle.desk.specs.Numbers.{most}
 use Rattle.desk.proofs.Choice.{cond-by}
 use Rattle.bits.specs.Rule.{bits, bitsOf, ueCode, UeRange, seCode, SeRange, unsignedOf, trailingBits}
-use Rattle.bits.specs.Step.{whole, Good, Wrote, wrote, kept, stored, filled, bytesOf}
+use Rattle.bits.specs.Step.{wholeWith, Good, Wrote, wrote, kept, stored, filled, bytesOf}
 use Rattle.bits.specs.Answer.{entryOn, badWriter, roomed, ueWidth, writeBits, writeBit, writeUe, writeSe, writeTrailing}
 use Rattle.bits.specs.Reading.{bitCode}
 use Rattle.bits.specs.Writing.{content, Appends, WhyNot, roomTooLong, stateBad, codeMissing, roomTooShort, WriteMeans, Field, u, flag}
@@ -47,7 +47,7 @@ AppendsTo o st code (wrote st′ o′) = Appends o st code o′ st′
 AppendsTo o st code (kept k o′) = Unit
 
 -- the bits of what is stored are those there were, then the n bits of v
-stored-content : (o : List ℕ) (st : BitWriter) (n v : ℕ) → v < 2 ^ n → whole st n ≤ length o → Holds (content o st ++ bitsOf n v) (stored o st n v)
+stored-content : (o : List ℕ) (st : BitWriter) (n v : ℕ) → v < 2 ^ n → wholeWith st n ≤ length o → Holds (content o st ++ bitsOf n v) (stored o st n v)
 unfolding stored
 stored-content o st n v h l =
     let w = st .written .0 in
@@ -76,7 +76,7 @@ length-content o st h =
     let c = st .count in
     length-append (bits (take w o)) (bitsOf c p) ∙ omega (arith, length-bits (take w o), length-take-le w o h, length-bits-of c p)
 
-stored-appends : (o : List ℕ) (st : BitWriter) (n v : ℕ) → Good (length o) st → v < 2 ^ n → whole st n ≤ length o
+stored-appends : (o : List ℕ) (st : BitWriter) (n v : ℕ) → Good (length o) st → v < 2 ^ n → wholeWith st n ≤ length o
     → AppendsTo o st (bitsOf n v) (stored o st n v)
 unfolding stored
 stored-appends o st n v g h l =
@@ -110,13 +110,13 @@ module _ (o : List ℕ) (st : BitWriter) (code : List ℕ) (Has : Type 0) (witho
   roomed-means n v g h l e =
       let long = length-content o st (g .within) in
       let width : length code ≡ n = ap length (sym e) ∙ length-bits-of n v in
-      cond-by Means (ltb (length o) (whole st n)) _ _
-      (λ t. (refl, roomTooShort g h (omega (arith, ltb-true (length o) (whole st n) t))))
+      cond-by Means (ltb (length o) (wholeWith st n)) _ _
+      (λ t. (refl, roomTooShort g h (omega (arith, ltb-true (length o) (wholeWith st n) t))))
       (λ f. (
         g,
         h,
         subst (λ (b : List ℕ). AppendsTo o st b (stored o st n v)) e
-            (stored-appends o st n v g l (ltb-false (length o) (whole st n) f)),
+            (stored-appends o st n v g l (ltb-false (length o) (wholeWith st n) f)),
       ))
 
 -- ---- the reasons suffice: no two of them hold, and where one does nothing is written

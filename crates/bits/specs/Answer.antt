@@ -10,7 +10,7 @@ use lib.Dec.{ltb, leb, eqb}
 use lib.IntN.{ℤ, natAbs}
 use Rattle.desk.specs.Numbers.{done, badWidth, bitsRunOut, expGolombTooLarge, remainingData, noCode, noRoom, entryOf}
 use Rattle.bits.specs.Rule.{size, valueAt, firstOne, lastOne, signedOf, unsignedOf, prefixOf}
-use Rattle.bits.specs.Step.{Wrote, wrote, kept, writer, whole, stored}
+use Rattle.bits.specs.Step.{Wrote, wrote, kept, writer, wholeWith, stored}
 use Rattle.bits.specs.declared.BitReader.{BitReader}
 use Rattle.bits.specs.declared.Bits.{Bits}
 use Rattle.bits.specs.declared.Bits.the-variants.{Value, Refused}
@@ -234,7 +234,7 @@ entryOn len st = entryOf (len ∷ 0 ∷ 0 ∷ []) (badWriter len st)
 
 -- n bits of v, where the whole bytes have room
 abbrev pub roomed : List ℕ → BitWriter → ℕ → ℕ → Wrote
-roomed o st n v = cond (ltb (length o) (whole st n)) (kept noRoom o) (stored o st n v)
+roomed o st n v = cond (ltb (length o) (wholeWith st n)) (kept noRoom o) (stored o st n v)
 
 -- u(n) of v
 unfoldable pub writeBits : List ℕ → BitWriter → ℕ → ℕ → Wrote

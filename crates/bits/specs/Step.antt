@@ -54,20 +54,20 @@ abbrev pub writer : ℕ → ℕ → ℕ → BitWriter
 writer w p c = record { written = record { 0 = w }; pending = p; count = c }
 
 -- the bytes that are whole once there are n bits more
-abbrev pub whole : BitWriter → ℕ → ℕ
-whole st n = st .written .0 + (st .count + n) / 8
+abbrev pub wholeWith : BitWriter → ℕ → ℕ
+wholeWith st n = st .written .0 + (st .count + n) / 8
 
 -- the pending bits, then the n bits of v: whole bytes are handed over, and what is left is pending
 unfoldable pub stored : List ℕ → BitWriter → ℕ → ℕ → Wrote
 stored o st n v =
     let x = st .pending * 2 ^ n + v in
     let r = (st .count + n) % 8 in
-    wrote (writer (whole st n) (x % 2 ^ r) r) (filled o (st .written .0) ((st .count + n) / 8) (x / 2 ^ r))
+    wrote (writer (wholeWith st n) (x % 2 ^ r) r) (filled o (st .written .0) ((st .count + n) / 8) (x / 2 ^ r))
 
 -- m bits of b after what was stored
-abbrev pub more : Wrote → ℕ → ℕ → Wrote
-more (wrote st o) m b = stored o st m b
-more (kept n o) m b = kept n o
+abbrev pub storedMore : Wrote → ℕ → ℕ → Wrote
+storedMore (wrote st o) m b = stored o st m b
+storedMore (kept n o) m b = kept n o
 
 -- a state that passes the entry checks, in a room of len bytes
 pub record Good (len : ℕ) (st : BitWriter) : Type 0 where
@@ -77,9 +77,9 @@ pub record Good (len : ℕ) (st : BitWriter) : Type 0 where
   pub below : st .pending < 2 ^ st .count
 
 -- and has room for n bits more
-pub record Fits (len : ℕ) (st : BitWriter) (n : ℕ) : Type 0 where
+pub record HasRoom (len : ℕ) (st : BitWriter) (n : ℕ) : Type 0 where
   pub good : Good len st
-  pub room : whole st n ≤ len
+  pub room : wholeWith st n ≤ len
 
 -- what a write leaves: a room as long, a good state, and so many bits in all
 abbrev pub GoodAfter : ℕ → ℕ → Wrote → Type 0

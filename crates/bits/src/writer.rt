@@ -4,7 +4,7 @@ ghost use Prim.Native.Nat.{_+_, _-_, _*_, _/_, _^_, _≤_, _<_};
 ghost use lib.ListN.{length};
 ghost use lib.Dec.{ltb, eqb};
 ghost use Rattle.desk.specs.Numbers.{most};
-ghost use Rattle.bits.specs.Step.{filled, wrote, whole, stored, Good, Fits};
+ghost use Rattle.bits.specs.Step.{filled, wrote, wholeWith, stored, Good, HasRoom};
 ghost use Rattle.bits.specs.Answer.{newWriter, badWriter, entryOn, roomed, ueWidth, writeBits, writeBit, writeUe, writeSe};
 ghost use Rattle.bits.specs.Answer.{writeTrailing, Writes};
 use super::BitWriter;
@@ -66,14 +66,14 @@ impl BitWriter {
     // Would the whole bytes pass the room, with n bits more?
     fn lacks_room(self, room: usize, n: u32) -> bool
         requires { ⌜ Good room self × (n ≤ 63) ⌝ }
-        ensures { λ r. ⌜ r ≡ ltb room (whole self n) ⌝ }
+        ensures { λ r. ⌜ r ≡ ltb room (wholeWith self n) ⌝ }
     {
         room < self.written.0 + (self.count as usize + n as usize) / 8
     }
 
     // n bits of v, which have room.
     fn put(self, out: &mut [u8], n: u32, v: u32) -> BitWriter
-        requires { ⌜ Fits (length (now out)) self n × (n ≤ 32) × (v < 2 ^ n) ⌝ }
+        requires { ⌜ HasRoom (length (now out)) self n × (n ≤ 32) × (v < 2 ^ n) ⌝ }
         ensures { λ r. ⌜ wrote r (now (out .exit)) ≡ stored (now (out .entry)) self n v ⌝ }
     {
         let w = self.written.0;
@@ -128,7 +128,7 @@ impl BitWriter {
 
     // n zeros, one at a time, which have room.
     fn put_zeros(self, out: &mut [u8], n: u32) -> BitWriter
-        requires { ⌜ Fits (length (now out)) self n × (n ≤ 31) ⌝ }
+        requires { ⌜ HasRoom (length (now out)) self n × (n ≤ 31) ⌝ }
         ensures { λ r. ⌜ wrote r (now (out .exit)) ≡ stored (now (out .entry)) self n 0 ⌝ }
     {
         let mut st = self;

@@ -6,8 +6,8 @@ use mathlib.Core.Path.{_≡_, refl, ap, ap₂, sym, _∙_, subst⁻¹}
 use mathlib.Core.Bool.{false, cond}
 use mathlib.Core.List.{List, [], _∷_, _++_, map, map-append, append-cancel-left, head-eq-of-cons-eq, tail-eq-of-cons-eq}
 use lib.ListN.{length, take, length-append, length-map}
-use Rattle.desk.specs.Search.{shown}
-use Rattle.desk.specs.Room.{written}
+use Rattle.desk.specs.Search.{unheld}
+use Rattle.desk.specs.Room.{withFront}
 use Rattle.desk.specs.Push.{shifted, Seen}
 use Rattle.desk.proofs.Room.{front}
 use Rattle.annexb.specs.declared.AnnexBReader.{AnnexBReader}
@@ -66,7 +66,7 @@ module _ {us : List (List ℕ)} {o : ℕ} {t : Tally} {told : List ℕ} (c : Cou
       let tell = told-units vs e p s ms own (start-is e o p (t .bytes) ep (c .bytes-told)) in
       let many : length ms ≡ length vs = sym (lengths-long s ms) ∙ ap length (tell .0) ∙ length-map vs (λ (u : List ℕ). length u % wrap) in
       let front-is : take marked marks″ ≡ lengths s ms =
-      ap₂ take (el ∙ sym (lengths-long s ms)) (d .lengths-are ∙ ap (λ (l : List ℕ). written marks (lengths s l)) em) ∙ front marks (lengths s ms) in
+      ap₂ take (el ∙ sym (lengths-long s ms)) (d .lengths-are ∙ ap (λ (l : List ℕ). withFront marks (lengths s l)) em) ∙ front marks (lengths s ms) in
       let sum : length (us ++ vs) ≡ length us + length vs = length-append us vs in
       let all : length (joined (us ++ vs)) ≡ e + length (joined vs) = joined-long us vs in
       record {
@@ -86,7 +86,7 @@ listing-calls (Listing.pushed l chunk room marks room′ marks′ marks″ r t�
 
 -- the bytes of the open unit that were given
 abbrev pub openBytes : List ℕ → ℕ
-openBytes h = length (cond (frame h .inUnit) (shown (frame h .rest)) [])
+openBytes h = length (cond (frame h .inUnit) (unheld (frame h .rest)) [])
 
 given-long : {h : List ℕ} {s : AnnexBReader} {g e : List ℕ} → Calls [] h s g e → length g ≡ length (joined (frame h .closed)) + openBytes h
 given-long {h} c = ap (λ (v : Seen AnnexBReader). length (v .bytes)) (sym (calls-rule c .open-span)) ∙ length-append (joined (frame h .closed)) _

@@ -8,7 +8,7 @@ use lib.ListN.{length, take, drop, length-drop, take-append-drop}
 use borrow.Author.Tests.{le-ltb}
 use Rattle.desk.specs.Numbers.{most}
 use Rattle.desk.specs.Push.{Seen}
-use Rattle.desk.specs.Room.{written}
+use Rattle.desk.specs.Room.{withFront}
 use Rattle.desk.proofs.Entering.{entry-done}
 use Rattle.desk.proofs.Lists.{trail-few}
 use Rattle.annexb.specs.declared.AnnexBReader.{AnnexBReader}
@@ -43,8 +43,8 @@ push-on {h} x b chunk few =
     let a = pushAnswer s (b ∷ chunk) 3 1 in
     let passes : entering s (length (b ∷ chunk)) 3 1 ≡ 0 =
     entry-done (length (b ∷ chunk) ∷ 3 ∷ 1 ∷ []) (ltb 2 (s .zeros)) (few, (omega arith, (omega arith, tt))) (le-ltb 2 (s .zeros) (good x)) in
-    let room = written (0 ∷ 0 ∷ 0 ∷ []) (a .bytes) in
-    let marks = written (0 ∷ []) (a .marks) in
+    let room = withFront (0 ∷ 0 ∷ 0 ∷ []) (a .bytes) in
+    let marks = withFront (0 ∷ []) (a .marks) in
     let r : Pushed = record { number = a .number; taken = a .taken; written = length (a .bytes); marked = length (a .marks); state = a .after } in
     let first = gap 0 (x .tally .bytes) in
     let ends = take (r .marked) marks in (
@@ -57,7 +57,7 @@ push-on {h} x b chunk few =
         tally = _;
         told = _;
         listing =
-            Listing.pushed (x .listing) (b ∷ chunk) (0 ∷ 0 ∷ 0 ∷ []) (0 ∷ []) room marks (written marks (lengths first ends)) r
+            Listing.pushed (x .listing) (b ∷ chunk) (0 ∷ 0 ∷ 0 ∷ []) (0 ∷ []) room marks (withFront marks (lengths first ends)) r
             (record { units = (x .tally .units + length ends) % wrap; bytes = gap (r .written) (lastOf first ends) })
             (record { number-is = refl; taken-is = refl; wrote-is = refl; marked-is = refl; state-is = refl; room = refl; mark-room = refl })
             (record { lengths-are = refl; units-is = refl; bytes-is = refl });

@@ -7,8 +7,8 @@ use mathlib.Core.Path.{_≡_, refl, ap, ap₂, sym, _∙_}
 use mathlib.Core.List.{List, [], _∷_, _++_}
 use lib.ListN.{length, take, drop, getD, set, length-set, length-take}
 use lib.Seq.{length-take-le, take-suc, drop-cons, set-at, getD-at, append-snoc}
-use Rattle.desk.specs.Room.{written}
-use Rattle.desk.proofs.Room.{length-written}
+use Rattle.desk.specs.Room.{withFront}
+use Rattle.desk.proofs.Room.{length-with-front}
 use Rattle.counting.specs.declared.Tally.{Tally}
 use Rattle.counting.specs.Tally.{wrap, gap, lengths, lastOf, Distances, Tallied}
 
@@ -29,21 +29,21 @@ pub wrapped : (r a b : ℕ) → r < wrap → (r + b) % wrap ≡ a → r ≡ gap 
 wrapped r a b h e = omega arith
 
 -- the loop's invariant, after i marks
-pub record Passed (marks₀ : List ℕ) (count start : ℕ) (marks : List ℕ) (last i : ℕ) : Type 0 where
+pub record MarksPassed (marks₀ : List ℕ) (count start : ℕ) (marks : List ℕ) (last i : ℕ) : Type 0 where
   pub few : i ≤ count
   pub long : length marks ≡ length marks₀
   pub is : marks ≡ lengths start (take i marks₀) ++ drop i marks₀
   pub last-is : last ≡ lastOf start (take i marks₀)
 
-pub passed-none : (marks : List ℕ) (count start : ℕ) → Passed marks count start marks start 0
-passed-none marks count start = record { few = zero-le; long = refl; is = refl; last-is = refl }
+pub marks-passed-none : (marks : List ℕ) (count start : ℕ) → MarksPassed marks count start marks start 0
+marks-passed-none marks count start = record { few = zero-le; long = refl; is = refl; last-is = refl }
 
-module _ {marks₀ : List ℕ} {count start : ℕ} {marks : List ℕ} {last i : ℕ} (p : Passed marks₀ count start marks last i)
+module _ {marks₀ : List ℕ} {count start : ℕ} {marks : List ℕ} {last i : ℕ} (p : MarksPassed marks₀ count start marks last i)
     (fit : count ≤ length marks₀) where
   front-long : i ≤ length marks₀ → length (lengths start (take i marks₀)) ≡ i
   front-long h = lengths-long start (take i marks₀) ∙ length-take-le i marks₀ h
 
-  pub passed-more : i < count → (v : ℕ) → v ≡ gap (getD marks i 0) last → Passed marks₀ count start (set marks i v) (getD marks i 0) (i + 1)
+  pub passed-more : i < count → (v : ℕ) → v ≡ gap (getD marks i 0) last → MarksPassed marks₀ count start (set marks i v) (getD marks i 0) (i + 1)
   passed-more h v e =
       let x = getD marks₀ i 0 in
       let front = lengths start (take i marks₀) in
@@ -66,7 +66,7 @@ module _ {marks₀ : List ℕ} {count start : ℕ} {marks : List ℕ} {last i : 
       }
 
   pub passed-all : i ≡ count → Distances marks₀ count start marks last
-  unfolding written
+  unfolding withFront
   passed-all e = (
     p .is
         ∙ ap₂ (λ (n k : ℕ). lengths start (take n marks₀) ++ drop k marks₀) e
@@ -87,7 +87,7 @@ pub tallied : (t : Tally) (marks marks′ : List ℕ) (marked wrote count start 
 tallied t marks marks′ marked wrote count start last units bytes ec es d eu eb =
     let front : take count marks ≡ take marked marks = ap (λ (n : ℕ). take n marks) ec ∙ take-min marked marks in
     record {
-      lengths-are = d .0 ∙ ap₂ (λ (s : ℕ) (l : List ℕ). written marks (lengths s l)) es front;
+      lengths-are = d .0 ∙ ap₂ (λ (s : ℕ) (l : List ℕ). withFront marks (lengths s l)) es front;
       units-is = eu ∙ ap (λ (n : ℕ). (t .units + n) % wrap) (ec ∙ sym (length-take marked marks));
       bytes-is = eb ∙ ap (gap wrote) (d .1 ∙ ap₂ lastOf es front);
     }
@@ -97,4 +97,4 @@ pub tallied-long : {t : Tally} {marks : List ℕ} {marked wrote : ℕ} {marks′
     → length marks′ ≡ length marks
 tallied-long {t} {marks} {marked} d =
     let l = lengths (gap 0 (t .bytes)) (take marked marks) in
-    ap length (d .lengths-are) ∙ length-written marks l (omega (arith, lengths-long (gap 0 (t .bytes)) (take marked marks), length-take marked marks))
+    ap length (d .lengths-are) ∙ length-with-front marks l (omega (arith, lengths-long (gap 0 (t .bytes)) (take marked marks), length-take marked marks))

@@ -3,7 +3,7 @@ use Prim.Native.Nat.{ℕ, _+_, _-_, _%_}
 use mathlib.Core.Path.{_≡_}
 use mathlib.Core.List.{List, [], _∷_}
 use lib.ListN.{length, take}
-use Rattle.desk.specs.Room.{written}
+use Rattle.desk.specs.Room.{withFront}
 use Rattle.counting.specs.declared.Tally.{Tally}
 
 -- 2^64: a u64 counts modulo it
@@ -25,7 +25,7 @@ lastOf s (m ∷ ms) = lastOf m ms
 
 -- the contract of the loop: the first `count` marks give way to their distances, and the last of them is answered
 abbrev pub Distances : List ℕ → ℕ → ℕ → List ℕ → ℕ → Type 0
-Distances marks count start marks′ last = (marks′ ≡ written marks (lengths start (take count marks))) × (last ≡ lastOf start (take count marks))
+Distances marks count start marks′ last = (marks′ ≡ withFront marks (lengths start (take count marks))) × (last ≡ lastOf start (take count marks))
 
 -- no unit yet
 abbrev pub nothing : Tally
@@ -33,6 +33,6 @@ nothing = record { units = 0; bytes = 0 }
 
 -- THE CONTRACT: of a call that gave `wrote` bytes and the first `marked` of the marks
 pub record Tallied (t : Tally) (marks : List ℕ) (marked wrote : ℕ) (marks′ : List ℕ) (r : Tally) : Type 0 where
-  pub lengths-are : marks′ ≡ written marks (lengths (gap 0 (t .bytes)) (take marked marks))
+  pub lengths-are : marks′ ≡ withFront marks (lengths (gap 0 (t .bytes)) (take marked marks))
   pub units-is : r .units ≡ (t .units + length (take marked marks)) % wrap
   pub bytes-is : r .bytes ≡ gap wrote (lastOf (gap 0 (t .bytes)) (take marked marks))

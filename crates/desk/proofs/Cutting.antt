@@ -13,7 +13,7 @@ use lib.Seq.{append-snoc, take-take, take-add}
 use Rattle.desk.specs.Push.{Out, Next, Entry, Answer, answers, marked, took, fits, run, pushOf, Gives, shifted, Pushes, Seen, seen, Follows}
 use Rattle.desk.specs.Push.{Cut}
 use Rattle.desk.proofs.Choice.{cond-by}
-use Rattle.desk.proofs.Room.{front, written-at-least}
+use Rattle.desk.proofs.Room.{front, with-front-at-least}
 use Rattle.desk.proofs.Pushing.{run-ends, run-takes, run-stops, run-forbidden}
 
 shifted-mark : (k : ℕ) (c : Bool) (l : List ℕ) → shifted k (marked c l) ≡ cond c ((k + length l) ∷ []) []
@@ -37,7 +37,7 @@ module _ {S : Type 0} {a : Answer S} {out marks out′ marks′ : List ℕ} {num
   gave-marks = ap₂ take (g .marked-is) (g .mark-room) ∙ front marks (a .marks)
 
   pub gave-marks-fit : markedN ≤ length marks′
-  gave-marks-fit = rw (g .mark-room, g .marked-is) (written-at-least marks (a .marks))
+  gave-marks-fit = rw (g .mark-room, g .marked-is) (with-front-at-least marks (a .marks))
 
 -- what was taken of a push's chunk is the stream's next bytes
 pub taken-front : (n k taken : ℕ) (stream : List ℕ) → taken ≤ length (take k (drop n stream))

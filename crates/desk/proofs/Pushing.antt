@@ -12,9 +12,9 @@ use lib.ListN.{length, take, drop, getD, length-append, length-drop, length-take
 use lib.Seq.{take-all, take-at, drop-at, drop-cons, drop-drop, length-take-le, drop-length}
 use borrow.Author.Tests.{le-leb, lt-leb, ne-eqb}
 use borrow.Rule.Slice.PartMut.{midOf, postOf, putMid, post-is}
-use Rattle.desk.specs.Room.{written}
+use Rattle.desk.specs.Room.{withFront}
 use Rattle.desk.specs.Push.{Out, Next, Answer, answers, marked, took, fits, forbidden, run, pushOf, Gives}
-use Rattle.desk.proofs.Room.{written-none}
+use Rattle.desk.proofs.Room.{with-front-none}
 
 -- ---- a run, by its first byte
 
@@ -38,7 +38,7 @@ module _ {S : Type 0} (next : Next S) (w m : ℕ) (a : Answer S) where
 
 -- ---- a room written from the place w on
 
-pub record Wrote (w n : ℕ) (x l l′ : List ℕ) : Type 0 where
+pub record WroteFront (w n : ℕ) (x l l′ : List ℕ) : Type 0 where
   pub count : length x ≡ n
   pub room : w + n ≤ length l
   pub front : take (w + n) l′ ≡ take w l ++ x
@@ -46,9 +46,9 @@ pub record Wrote (w n : ℕ) (x l l′ : List ℕ) : Type 0 where
   pub long : length l′ ≡ length l
 
 -- the part that was lent from w on came back with x at its front
-pub wrote : (w n : ℕ) (x l part : List ℕ) → w ≤ length l → n ≤ length l - w → length x ≡ n → part ≡ written (midOf w (length l - w) l) x
-    → Wrote w n x l (putMid w (length l - w) l part)
-unfolding written
+pub wrote : (w n : ℕ) (x l part : List ℕ) → w ≤ length l → n ≤ length l - w → length x ≡ n → part ≡ withFront (midOf w (length l - w) l) x
+    → WroteFront w n x l (putMid w (length l - w) l part)
+unfolding withFront
 wrote w n x l part h k lx e =
     let mid : midOf w (length l - w) l ≡ drop w l = take-all (length l - w) (drop w l) (simp length-drop (le-refl _)) in
     let none : postOf w (length l - w) l ≡ [] = post-is w (length l) l h ∙ drop-length l in
@@ -65,14 +65,14 @@ wrote w n x l part h k lx e =
     }
 
 -- a room of marks that is not there
-pub wrote-none : Wrote 0 0 [] [] []
+pub wrote-none : WroteFront 0 0 [] [] []
 wrote-none = record { count = refl; room = omega arith; front = refl; back = refl; long = refl }
 
 kept : (w n : ℕ) (l l₀ : List ℕ) → drop w l ≡ drop w l₀ → drop (w + n) l ≡ drop (w + n) l₀
 kept w n l l₀ e = sym (drop-drop n w l) ∙ ap (drop n) e ∙ drop-drop n w l₀
 
-whole : (w : ℕ) (l l₀ : List ℕ) → w ≤ length l → drop w l ≡ drop w l₀ → l ≡ written l₀ (take w l)
-unfolding written
+whole : (w : ℕ) (l l₀ : List ℕ) → w ≤ length l → drop w l ≡ drop w l₀ → l ≡ withFront l₀ (take w l)
+unfolding withFront
 whole w l l₀ h e = sym (take-append-drop w l) ∙ ap (λ (r : List ℕ). take w l ++ r) (e ∙ ap (λ (n : ℕ). drop n l₀) (sym (length-take-le w l h)))
 
 -- ---- a push, after t bytes taken, w bytes and m marks written
@@ -149,7 +149,7 @@ module _ {S : Type 0} {next : Next S} {chunk out₀ marks₀ : List ℕ} {s₀ :
           ∙ and-false (leb (w + n) (length out₀)))
 
       -- it is taken
-      pub going-more : {out′ marks′ : List ℕ} → Wrote w n (o .bytes) out out′ → Wrote m k (marked (o .mark) (take w out)) marks marks′
+      pub going-more : {out′ marks′ : List ℕ} → WroteFront w n (o .bytes) out out′ → WroteFront m k (marked (o .mark) (take w out)) marks marks′
           → Going next chunk out₀ marks₀ s₀ out′ marks′ (o .after) (t + 1) (w + n) (m + k)
       going-more wo wm =
           record {
@@ -204,8 +204,8 @@ gives-alone n s out marks =
       wrote-is = refl;
       marked-is = refl;
       state-is = refl;
-      room = written-none out;
-      mark-room = written-none marks;
+      room = with-front-none out;
+      mark-room = with-front-none marks;
     }
 
 -- a push that the entry checks refuse

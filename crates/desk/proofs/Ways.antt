@@ -8,15 +8,15 @@ use mathlib.Core.List.{List, [], _∷_, _++_, append-nil}
 use mathlib.Core.Option.{Option, none, some}
 use lib.ListN.{length, take, drop, length-append}
 use lib.Seq.{append-snoc, take-at, drop-at}
-use Rattle.desk.specs.Room.{written}
+use Rattle.desk.specs.Room.{withFront}
 use Rattle.desk.specs.Push.{Out, Next, Entry, Answer, marked, pushOf, pushBy, Gives, Pushes, Seen, Follows, acceptsBy, accepts, Way}
 use Rattle.desk.proofs.Cutting.{pushed-few, pushes-cut}
 use Rattle.desk.proofs.Taking.{takes-first}
 
 -- AN OUTCOME OF EVERY ANSWER: it returns what the answer says, and writes that into the rooms
-pub outcome : {S : Type 0} (a : Answer S) (out marks : List ℕ)
-    → Gives a out marks (written out (a .bytes)) (written marks (a .marks)) (a .number) (a .taken) (length (a .bytes)) (length (a .marks)) (a .after)
-outcome a out marks =
+pub an-outcome : {S : Type 0} (a : Answer S) (out marks : List ℕ)
+    → Gives a out marks (withFront out (a .bytes)) (withFront marks (a .marks)) (a .number) (a .taken) (length (a .bytes)) (length (a .marks)) (a .after)
+an-outcome a out marks =
     record { number-is = refl; taken-is = refl; wrote-is = refl; marked-is = refl; state-is = refl; room = refl; mark-room = refl }
 
 module _ {S : Type 0} {next : Next S} {s₀ : S} {rule : List ℕ → Seen S} (f : Follows next s₀ rule) (entry : Entry S) (stream out marks : List ℕ)
@@ -51,9 +51,9 @@ module _ {S : Type 0} {next : Next S} {s₀ : S} {rule : List ℕ → Seen S} (f
         subst WayTo one
         (record {
           state = a .after;
-          given = v .given ++ take (length (a .bytes)) (written out (a .bytes));
+          given = v .given ++ take (length (a .bytes)) (withFront out (a .bytes));
           ends = _;
-          pushes = Pushes.one-more (v .pushes) 1 out marks _ _ _ _ _ _ _ (outcome a out marks);
+          pushes = Pushes.one-more (v .pushes) 1 out marks _ _ _ _ _ _ _ (an-outcome a out marks);
           lent = (refl, refl, v .lent);
         })
 

@@ -8,7 +8,7 @@ use mathlib.Core.Option.{Option, none, some}
 use lib.ListN.{length, take, drop, getD}
 use lib.Dec.{leb, eqb}
 use Rattle.desk.specs.Numbers.{done, forbiddenByte}
-use Rattle.desk.specs.Room.{written}
+use Rattle.desk.specs.Room.{withFront}
 
 -- what a byte does: the state after it, the bytes that it releases, and whether it ends a unit
 pub record Out (S : Type 0) : Type 0 where
@@ -56,13 +56,13 @@ abbrev pub forbidden : {S : Type 0} → Answer S → Answer S
 forbidden a = record { number = forbiddenByte; taken = a .taken; bytes = a .bytes; marks = a .marks; after = a .after }
 
 -- with the next byte: 7 whatever room is left where it is forbidden; else it is taken if all that it releases fits
-abbrev pub onward : {S : Type 0} → ℕ → ℕ → Answer S → Option (Out S) → (Out S → Answer S) → Answer S
-onward w m a none go = forbidden a
-onward w m a (some o) go = cond (fits w m a o) (go o) a
+abbrev pub meets : {S : Type 0} → ℕ → ℕ → Answer S → Option (Out S) → (Out S → Answer S) → Answer S
+meets w m a none go = forbidden a
+meets w m a (some o) go = cond (fits w m a o) (go o) a
 
 unfoldable pub run : {S : Type 0} → Next S → ℕ → ℕ → Answer S → List ℕ → Answer S
 run next w m a [] = a
-run next w m a (b ∷ bs) = onward w m a (next (a .after) b) (λ o. run next w m (took a o) bs)
+run next w m a (b ∷ bs) = meets w m a (next (a .after) b) (λ o. run next w m (took a o) bs)
 
 -- a push of a chunk from the state s into rooms of w bytes and m marks, where the entry checks gave `entry`
 unfoldable pub pushOf : {S : Type 0} → Next S → ℕ → S → List ℕ → ℕ → ℕ → Answer S
@@ -83,8 +83,8 @@ pub record Gives {S : Type 0} (a : Answer S) (out marks out′ marks′ : List �
   pub wrote-is : wrote ≡ length (a .bytes)
   pub marked-is : markedN ≡ length (a .marks)
   pub state-is : state ≡ a .after
-  pub room : out′ ≡ written out (a .bytes)
-  pub mark-room : marks′ ≡ written marks (a .marks)
+  pub room : out′ ≡ withFront out (a .bytes)
+  pub mark-room : marks′ ≡ withFront marks (a .marks)
 
 -- ---- a stream cut into pushes
 

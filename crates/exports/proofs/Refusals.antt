@@ -13,10 +13,10 @@ use lib.IntN.{ℤ}
 use Rattle.desk.specs.Numbers.{anyOver}
 use Rattle.desk.specs.Search.{is3, first}
 use Rattle.desk.specs.Push.{Out, Next, Answer, answers, took, fits, run, pushOf, Gives}
-use Rattle.desk.specs.Room.{written}
+use Rattle.desk.specs.Room.{withFront}
 use Rattle.desk.proofs.Choice.{cond-ind}
 use Rattle.desk.proofs.Pushing.{run-ends, run-takes, run-stops, run-forbidden}
-use Rattle.desk.proofs.Room.{written-none}
+use Rattle.desk.proofs.Room.{with-front-none}
 use Rattle.desk.proofs.Taking.{push-refused}
 use Rattle.rbsp.specs.declared.reader.ParseState.{ParseState}
 use Rattle.rbsp.specs.declared.reader.ParseState.the-variants.{Start, Skip, PostThree}
@@ -25,7 +25,7 @@ use Rattle.rbsp.specs.declared.writer.ByteWriter.{ByteWriter}
 use Rattle.rbsp.specs.declared.nal.Decoded.{Decoded}
 use Rattle.rbsp.specs.declared.nal.Decoded.the-variants.{Own, Filled, TooLong, Empty, Forbidden, NoRoom}
 use Rattle.rbsp.specs.Rule.{unescape, firstBreak}
-use Rattle.rbsp.specs.Step.{next, readEntry, stuffs, escapes, writeEntry}
+use Rattle.rbsp.specs.Step.{readStep, readEntry, stuffs, writeStep, writeEntry}
 use Rattle.rbsp.specs.Answer.{Decoding, refuses, decodeKept, decodeTail, decodeNal, decodeOf, numberOf}
 use Rattle.annexb.specs.declared.AnnexBReader.{AnnexBReader}
 use Rattle.annexb.specs.Answer.{entering}
@@ -61,26 +61,26 @@ head e = ap (λ (l : List ℕ). getD l 0 0) e
 
 -- ---- pushes
 
-module _ {S : Type 0} (next : Next S) (Q : ℕ → Type 0) (Q0 : Q 0) (Q7 : (s : S) (b : ℕ) → next s b ≡ none → Q 7) where
+module _ {S : Type 0} (readStep : Next S) (Q : ℕ → Type 0) (Q0 : Q 0) (Q7 : (s : S) (b : ℕ) → readStep s b ≡ none → Q 7) where
   -- a run answers 0, or 7 where a byte is forbidden
-  run-number : (w m : ℕ) (a : Answer S) (bs : List ℕ) → Q (a .number) → a .number ≡ 0 → Q (run next w m a bs .number)
-  run-number w m a [] q z = subst (λ (x : Answer S). Q (x .number)) (sym (run-ends next w m a)) q
-  run-number w m a (b ∷ bs) q z = go (next (a .after) b) refl (λ o. run-number w m (took a o) bs q z)
+  run-number : (w m : ℕ) (a : Answer S) (bs : List ℕ) → Q (a .number) → a .number ≡ 0 → Q (run readStep w m a bs .number)
+  run-number w m a [] q z = subst (λ (x : Answer S). Q (x .number)) (sym (run-ends readStep w m a)) q
+  run-number w m a (b ∷ bs) q z = go (readStep (a .after) b) refl (λ o. run-number w m (took a o) bs q z)
     where
-      go : (r : Option (Out S)) → next (a .after) b ≡ r
-          → ((o : Out S) → Q (run next w m (took a o) bs .number)) → Q (run next w m a (b ∷ bs) .number)
-      go none e ih = subst (λ (x : Answer S). Q (x .number)) (sym (run-forbidden next w m a b bs e)) (Q7 (a .after) b e)
+      go : (r : Option (Out S)) → readStep (a .after) b ≡ r
+          → ((o : Out S) → Q (run readStep w m (took a o) bs .number)) → Q (run readStep w m a (b ∷ bs) .number)
+      go none e ih = subst (λ (x : Answer S). Q (x .number)) (sym (run-forbidden readStep w m a b bs e)) (Q7 (a .after) b e)
       go (some o) e ih = fit (fits w m a o) refl
         where
-          fit : (c : Bool) → fits w m a o ≡ c → Q (run next w m a (b ∷ bs) .number)
-          fit false d = subst (λ (x : Answer S). Q (x .number)) (sym (run-stops next w m a b bs o e d)) q
-          fit true d = subst (λ (x : Answer S). Q (x .number)) (sym (run-takes next w m a b bs o e d)) (ih o)
+          fit : (c : Bool) → fits w m a o ≡ c → Q (run readStep w m a (b ∷ bs) .number)
+          fit false d = subst (λ (x : Answer S). Q (x .number)) (sym (run-stops readStep w m a b bs o e d)) q
+          fit true d = subst (λ (x : Answer S). Q (x .number)) (sym (run-takes readStep w m a b bs o e d)) (ih o)
 
   -- so a push that tells another number was refused by its entry checks
-  push-alone : (e : ℕ) (s : S) (chunk : List ℕ) (w m : ℕ) → (Q (pushOf next e s chunk w m .number) → ⊥) → pushOf next e s chunk w m ≡ answers e s
+  push-alone : (e : ℕ) (s : S) (chunk : List ℕ) (w m : ℕ) → (Q (pushOf readStep e s chunk w m .number) → ⊥) → pushOf readStep e s chunk w m ≡ answers e s
   unfolding pushOf
   push-alone zero s chunk w m h = absurd (h (run-number w m (answers 0 s) chunk Q0 refl))
-  push-alone (suc e) s chunk w m h = push-refused next (suc e) s chunk w m (λ k. let z : ⊥ = omega arith in z)
+  push-alone (suc e) s chunk w m h = push-refused readStep (suc e) s chunk w m (λ k. let z : ⊥ = omega arith in z)
 
 -- what a call that was refused at entry returns and leaves
 record Alone {S : Type 0} (s : S) (out marks out′ marks′ : List ℕ) (taken wrote markedN : ℕ) (state : S) : Type 0 where
@@ -99,8 +99,8 @@ alone {S} {out = out} {marks = marks} q g =
       wrote-0 = g .wrote-is ∙ ap (λ (x : Answer S). length (x .bytes)) q;
       marked-0 = g .marked-is ∙ ap (λ (x : Answer S). length (x .marks)) q;
       state-same = g .state-is ∙ ap (λ (x : Answer S). x .after) q;
-      out-same = g .room ∙ ap (λ (x : Answer S). written out (x .bytes)) q ∙ sym (written-none out);
-      marks-same = g .mark-room ∙ ap (λ (x : Answer S). written marks (x .marks)) q ∙ sym (written-none marks);
+      out-same = g .room ∙ ap (λ (x : Answer S). withFront out (x .bytes)) q ∙ sym (with-front-none out);
+      marks-same = g .mark-room ∙ ap (λ (x : Answer S). withFront marks (x .marks)) q ∙ sym (with-front-none marks);
     }
 
 -- ---- escaping
@@ -123,10 +123,10 @@ pub read-refused : (zeros skip : ℕ) (three : Bool) (chunk out out′ : List �
 read-refused zeros skip three chunk out out′ {n} {rest} f no0 no7 =
     let s = readerOf zeros skip three in
     let e = readEntry s (length chunk) (length out) 0 in
-    let number : n ≡ pushOf next e s chunk (length out) 0 .number = head (f .told) ∙ read-number zeros skip three (f .r) ∙ f .call .number-is in
+    let number : n ≡ pushOf readStep e s chunk (length out) 0 .number = head (f .told) ∙ read-number zeros skip three (f .r) ∙ f .call .number-is in
     let q =
-    push-alone next (λ (k : ℕ). (k ≡ 7 → ⊥) → k ≡ 0) (λ _. refl) (λ s b x h. absurd (h refl)) e s chunk (length out) 0
-    (λ (z : (pushOf next e s chunk (length out) 0 .number ≡ 7 → ⊥) → pushOf next e s chunk (length out) 0 .number ≡ 0).
+    push-alone readStep (λ (k : ℕ). (k ≡ 7 → ⊥) → k ≡ 0) (λ _. refl) (λ s b x h. absurd (h refl)) e s chunk (length out) 0
+    (λ (z : (pushOf readStep e s chunk (length out) 0 .number ≡ 7 → ⊥) → pushOf readStep e s chunk (length out) 0 .number ≡ 0).
     no0 (number ∙ z (λ k. no7 (number ∙ k)))) in
     let l = alone q (f .call) in
     (behind (f .told ∙ read-nothing zeros skip three (f .r) (l .taken-0) (l .wrote-0)), l .out-same)
@@ -135,7 +135,7 @@ read-refused zeros skip three chunk out out′ {n} {rest} f no0 no7 =
 taken-not-none : (o : Out ByteWriter) → _≡_ {A = Option (Out ByteWriter)} (some o) none → ⊥
 taken-not-none o e = let z : _≡_ {A = ℕ} 0 1 = cc in omega arith
 
-writes-any : (s : ByteWriter) (b : ℕ) → escapes s b ≡ none → ⊥
+writes-any : (s : ByteWriter) (b : ℕ) → writeStep s b ≡ none → ⊥
 writes-any s b = cond-ind (λ (x : Option (Out ByteWriter)). x ≡ none → ⊥) (stuffs (s .«zero_count») b) _ _ (taken-not-none _) (taken-not-none _)
 
 pub write-refused : (s : ByteWriter) (chunk out out′ : List ℕ) {n : ℕ} {rest : List ℕ} → FrontsWrite s chunk out out′ (n ∷ rest)
@@ -143,8 +143,8 @@ pub write-refused : (s : ByteWriter) (chunk out out′ : List ℕ) {n : ℕ} {re
 write-refused s chunk out out′ {n} {rest} f no0 =
     let e = writeEntry s (length chunk) (length out) 0 in
     let q =
-    push-alone escapes (λ (k : ℕ). k ≡ 0) refl (λ s b x. absurd (writes-any s b x)) e s chunk (length out) 0
-    (λ (z : pushOf escapes e s chunk (length out) 0 .number ≡ 0). no0 (head (f .told) ∙ f .call .number-is ∙ z)) in
+    push-alone writeStep (λ (k : ℕ). k ≡ 0) refl (λ s b x. absurd (writes-any s b x)) e s chunk (length out) 0
+    (λ (z : pushOf writeStep e s chunk (length out) 0 .number ≡ 0). no0 (head (f .told) ∙ f .call .number-is ∙ z)) in
     let l = alone q (f .call) in
     (behind (f .told) ∙ rw (l .taken-0, l .wrote-0, l .state-same), l .out-same)
 
@@ -176,8 +176,8 @@ pub decode-refused : (nal room room′ : List ℕ) {n : ℕ} {rest : List ℕ} �
 decode-refused nal room room′ {n} {rest} f no0 = (
   λ no7. of (f .r) (f .told) no7,
   f .call .room-is
-      ∙ ap (written room) (decode-none nal (length room) (λ z. no0 (number (f .r) (f .told) ∙ f .call .number-is ∙ z)))
-      ∙ sym (written-none room),
+      ∙ ap (withFront room) (decode-none nal (length room) (λ z. no0 (number (f .r) (f .told) ∙ f .call .number-is ∙ z)))
+      ∙ sym (with-front-none room),
 )
   where
     number : (r : Decoded) → n ∷ rest ≡ decodeNumbers r → n ≡ numberOf r
@@ -290,7 +290,7 @@ module _ (w p c : ℕ) (out out′ : List ℕ) {n : ℕ} {rest : List ℕ} (no0 
 groups-kept : {from : BitReader} {m : ℕ} {ids ids′ : List ℕ} {r : SliceGroupRead} {n : ℕ} {rest : List ℕ} → (n ≡ 0 → ⊥)
     → n ∷ rest ≡ groupsNumbers r → (a : Ans Fields) → GroupsGiven from m a ids r ids′ → (rest ≡ from .at .0 ∷ 0 ∷ 0 ∷ []) × (ids′ ≡ ids)
 groups-kept no0 t (got f q) g = absurd (no0 (head (t ∙ ap groupsNumbers (g .answers))))
-groups-kept {ids = ids} no0 t (no k) g = (behind (t ∙ ap groupsNumbers (g .answers)), g .memory ∙ sym (written-none ids))
+groups-kept {ids = ids} no0 t (no k) g = (behind (t ∙ ap groupsNumbers (g .answers)), g .memory ∙ sym (with-front-none ids))
 
 pub groups-refused : (s : List ℕ) (from : BitReader) (m : ℕ) (g : Geometry) (ids ids′ : List ℕ) (lent lent′ : Arrays) {n : ℕ} {rest : List ℕ}
     → (n ≡ 0 → ⊥) → FrontsGroups s from m g ids lent ids′ (n ∷ rest) lent′

@@ -56,8 +56,8 @@ abbrev pub cornersAt : List SliceRect → ℕ → List ℕ → List ℕ
 cornersAt rects i rest = getD rects i noRect .«top_left» ∷ getD rects i noRect .«bottom_right» ∷ rest
 
 -- the corners of each of the seven rectangles in turn
-abbrev pub corners : List SliceRect → List ℕ
-corners rects =
+abbrev pub cornerNumbers : List SliceRect → List ℕ
+cornerNumbers rects =
     cornersAt rects 0 (cornersAt rects 1 (cornersAt rects 2 (cornersAt rects 3 (cornersAt rects 4 (cornersAt rects 5 (cornersAt rects 6 []))))))
 
 -- what the three arrays beside the answer hold
@@ -70,7 +70,7 @@ abbrev pub arrays : List ℕ → List ℕ → List ℕ → Arrays
 arrays group runs rects = record { group = group; runs = runs; rects = rects }
 
 abbrev pub arraysOf : SliceGroups → Arrays
-arraysOf g = arrays (groupNumbers (g .group)) (g .«run_length_minus1») (corners (g .rectangles))
+arraysOf g = arrays (groupNumbers (g .group)) (g .«run_length_minus1») (cornerNumbers (g .rectangles))
 
 -- the call's own contract, its answer, and the arrays: as they came where it was refused
 pub record FrontsGroups (s : List ℕ) (from : BitReader) (n : ℕ) (g : Geometry) (ids : List ℕ) (lent : Arrays)

@@ -4,7 +4,7 @@ ghost use Rattle.pps.specs.Rule.{numRefIdx};
 ghost use Rattle.pps.specs.Answer.{rectOf};
 ghost use Rattle.bits.specs.Reading.{readerAt};
 ghost use Rattle.exports.specs.Bits.{FrontsBits};
-ghost use Rattle.exports.specs.Groups.{pictureOf, rectNumbers, FrontsRect, changeNumber, groupNumbers, groupsNumbers, corners};
+ghost use Rattle.exports.specs.Groups.{pictureOf, rectNumbers, FrontsRect, changeNumber, groupNumbers, groupsNumbers, cornerNumbers};
 ghost use Rattle.exports.specs.Groups.{arrays, FrontsGroups};
 use super::numbers::flag;
 use super::numbers::wide;
@@ -111,7 +111,7 @@ fn groups_numbers(r: SliceGroupRead) -> [u64; 4]
 }
 
 fn corners(rects: [SliceRect; 7]) -> [u32; 14]
-    ensures { λ a. ⌜ a ≡ corners rects ⌝ }
+    ensures { λ a. ⌜ a ≡ cornerNumbers rects ⌝ }
 {
     let a = rects[0];
     let b = rects[1];

@@ -18,7 +18,7 @@ use Rattle.counting.proofs.Counting.{listing-rule, listing-reset}
 use Rattle.lister.specs.declared.Progress.{Progress}
 use Rattle.lister.specs.Text.{linesBy, modulo, totalLine, listingTold}
 use Rattle.lister.specs.Buffer.{Puts}
-use Rattle.lister.specs.System.{Read, Sent, HandedOut}
+use Rattle.lister.specs.System.{WasRead, WasSent, HandedOut}
 use Rattle.lister.specs.Listed.{Ready, Carries, Lists, Finishes, PartText}
 use Rattle.lister.proofs.Lines.{lines-append, lines-modulo}
 use Rattle.lister.proofs.Filling.{puts-more}
@@ -57,9 +57,9 @@ module _ (p : Progress) (room marks room′ marks′ marks″ text text′ : Lis
         ends = _;
         lengths = _;
         listing = Listing.pushed (k .listing) chunk room marks room′ marks′ marks″ r t′ o d;
-        was-read = subst (λ (l : List ℕ). Read l read) (sym all) (k .was-read);
+        was-read = subst (λ (l : List ℕ). WasRead l read) (sym all) (k .was-read);
         was-sent =
-            subst (λ (l : List ℕ). Sent l sent′) (ap (λ (l : List ℕ). linesBy modulo 0 (k .lengths) ++ l) (q .front) ∙ next-lines (k .listing) ns)
+            subst (λ (l : List ℕ). WasSent l sent′) (ap (λ (l : List ℕ). linesBy modulo 0 (k .lengths) ++ l) (q .front) ∙ next-lines (k .listing) ns)
             (w .handed (linesBy modulo 0 (k .lengths)) (k .was-sent));
       }
 
@@ -82,15 +82,15 @@ module _ (p : Progress) (room marks room′ marks′ marks″ text text′ : Lis
       ∙ ap₂ (λ (x : List ℕ) (n : ℕ). x ++ totalLine n) (next-lines (k .listing) ns ∙ ap (linesBy modulo 0) (c .lengths-told)) (c .units-told) in
       record {
         bytes = k .taken;
-        was-read = subst (λ (l : List ℕ). Read l read) (append-nil (k .taken)) (k .was-read);
-        was-sent = subst (λ (l : List ℕ). Sent l sent′) all (w .handed (linesBy modulo 0 told) (k .was-sent));
+        was-read = subst (λ (l : List ℕ). WasRead l read) (append-nil (k .taken)) (k .was-read);
+        was-sent = subst (λ (l : List ℕ). WasSent l sent′) all (w .handed (linesBy modulo 0 told) (k .was-sent));
       }
 
 -- WHAT IS TOLD SO FAR ARE THE LINES OF THE RULE'S UNITS THAT ENDED
 pub part-told : {waiting : List ℕ} {read sent : ℕ} {p : Progress} → Carries waiting read sent p → PartText waiting read sent
 part-told {waiting} {read} {sent} k =
     let lines = ap (linesBy modulo 0) (listing-rule (k .listing) .lengths-told) in
-    record { listed = k .taken; was-read = k .was-read; was-sent = subst (λ (l : List ℕ). Sent l sent) lines (k .was-sent) }
+    record { listed = k .taken; was-read = k .was-read; was-sent = subst (λ (l : List ℕ). WasSent l sent) lines (k .was-sent) }
 
 -- ---- a chunk, piece by piece
 

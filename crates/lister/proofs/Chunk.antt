@@ -5,8 +5,8 @@ use mathlib.Core.Path.{_≡_, refl, _∙_}
 use mathlib.Core.List.{List}
 use lib.ListN.{length, take, drop}
 use Rattle.lister.specs.declared.Progress.{Progress}
-use Rattle.lister.specs.System.{more}
-use Rattle.lister.specs.Listed.{Ready, Some, All, Lists}
+use Rattle.lister.specs.System.{moreToCome}
+use Rattle.lister.specs.Listed.{Ready, SomeListed, ChunkListed, Lists}
 use Rattle.lister.proofs.Taking.{still-ready}
 use Rattle.lister.proofs.Carrying.{rest-long, lists-more}
 
@@ -18,10 +18,10 @@ pub record Along (chunk room₀ marks₀ text₀ : List ℕ) (sent₀ : ℕ) (p�
   pub marks-long : length marks ≡ length marks₀
   pub text-long : length text ≡ length text₀
   pub good : p .reader .zeros ≤ 2
-  pub well : status ≡ more
+  pub well : status ≡ moreToCome
   pub lists : Lists chunk sent₀ p₀ at sent p
 
-pub along-none : (chunk room marks text : List ℕ) (sent : ℕ) (p : Progress) {status : ℕ} → status ≡ more → p .reader .zeros ≤ 2
+pub along-none : (chunk room marks text : List ℕ) (sent : ℕ) (p : Progress) {status : ℕ} → status ≡ moreToCome → p .reader .zeros ≤ 2
     → Along chunk room marks text sent p room marks text sent status p 0
 along-none chunk room marks text sent p e g =
     record { few = zero-le; room-long = refl; marks-long = refl; text-long = refl; good = g; well = e; lists = λ read k. k }
@@ -39,10 +39,10 @@ module _ {chunk room₀ marks₀ text₀ : List ℕ} {sent₀ : ℕ} {p₀ : Pro
       (omega arith, still-ready g (a .good) (omega arith) (a .room-long) (a .marks-long) (a .text-long))
 
   -- the next piece
-  module _ {taken sent′ status′ : ℕ} {p′ : Progress} (o : Some (p′ .reader .zeros) taken (length (restOf chunk at)) status status′)
+  module _ {taken sent′ status′ : ℕ} {p′ : Progress} (o : SomeListed (p′ .reader .zeros) taken (length (restOf chunk at)) status status′)
       (l : Lists (restOf chunk at) sent p taken sent′ p′) where
     pub along-more : {room′ marks′ text′ : List ℕ} → length room′ ≡ length room → length marks′ ≡ length marks → length text′ ≡ length text
-        → status′ ≡ more → Along chunk room₀ marks₀ text₀ sent₀ p₀ room′ marks′ text′ sent′ status′ p′ (at + taken)
+        → status′ ≡ moreToCome → Along chunk room₀ marks₀ text₀ sent₀ p₀ room′ marks′ text′ sent′ status′ p′ (at + taken)
     along-more er em et e =
         record {
           few = omega (arith, a .few, o .taken-few, rest-long chunk at);
@@ -55,10 +55,10 @@ module _ {chunk room₀ marks₀ text₀ : List ℕ} {sent₀ : ℕ} {p₀ : Pro
         }
 
     -- its lines could not be written
-    pub along-failed : (status′ ≡ more → ⊥)
-        → All (p′ .reader .zeros) (at + taken) (length chunk) status′ × Lists chunk sent₀ p₀ (at + taken) sent′ p′
+    pub along-failed : (status′ ≡ moreToCome → ⊥)
+        → ChunkListed (p′ .reader .zeros) (at + taken) (length chunk) status′ × Lists chunk sent₀ p₀ (at + taken) sent′ p′
     along-failed n =
         (record { good = o .good; all-taken = λ h. absurd (n (o .well h ∙ a .well)) }, lists-more chunk at taken (a .lists) l)
 
-  pub along-all : at ≡ length chunk → All (p .reader .zeros) at (length chunk) status × Lists chunk sent₀ p₀ at sent p
+  pub along-all : at ≡ length chunk → ChunkListed (p .reader .zeros) at (length chunk) status × Lists chunk sent₀ p₀ at sent p
   along-all e = (record { good = a .good; all-taken = λ _. (a .well, e) }, a .lists)

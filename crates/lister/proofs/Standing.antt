@@ -7,7 +7,7 @@ use lib.ListN.{length}
 use Rattle.counting.proofs.Existing.{Exists, every-stream}
 use Rattle.lister.specs.declared.Progress.{Progress}
 use Rattle.lister.specs.Text.{linesBy, modulo}
-use Rattle.lister.specs.System.{Through, Read, through-none, through-more}
+use Rattle.lister.specs.System.{Through, WasRead, through-none, through-more}
 use Rattle.lister.specs.Listed.{Carries}
 
 -- the bytes l have gone through the descriptor fd at once
@@ -35,7 +35,7 @@ every-listed h =
             ends = x .ends;
             lengths = x .told;
             listing = x .listing;
-            was-read = subst (λ (l : List ℕ). Read l (length h)) (sym (append-nil h)) (at-once 0 h);
+            was-read = subst (λ (l : List ℕ). WasRead l (length h)) (sym (append-nil h)) (at-once 0 h);
             was-sent = at-once 1 (linesBy modulo 0 (x .told));
           };
       all = refl;

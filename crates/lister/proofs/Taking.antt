@@ -14,7 +14,7 @@ use Rattle.annexb.specs.Answer.{entering, pushAnswer, Gave}
 use Rattle.annexb.proofs.Laws.{push-takes-longest, push-takes-one}
 use Rattle.annexb.proofs.Calling.{push-few}
 use Rattle.lister.specs.System.{KeptOrFailed}
-use Rattle.lister.specs.Listed.{Ready, Some}
+use Rattle.lister.specs.Listed.{Ready, SomeListed}
 
 -- with a part of the chunk, and buffers that are as long
 pub still-ready : {zeros chunk room marks text zeros′ chunk′ room′ marks′ text′ : ℕ} → Ready zeros chunk room marks text
@@ -42,7 +42,7 @@ taken-one s (b ∷ bs) {room} {marks} h g = push-takes-one s b bs room marks (pa
 pub some-listed : (s : AnnexBReader) (chunk room marks : List ℕ) {room′ marks′ : List ℕ} {r : Pushed} {text status status′ : ℕ} → 1 ≤ length chunk
     → Ready (s .zeros) (length chunk) (length room) (length marks) text
     → Gave (pushAnswer s chunk (length room) (length marks)) room marks room′ marks′ r → KeptOrFailed status status′
-    → Some (r .state .zeros) (r .taken) (length chunk) status status′
+    → SomeListed (r .state .zeros) (r .taken) (length chunk) status status′
 some-listed s chunk room marks {room′} {marks′} {r} h g o w =
     record {
       good = push-few s chunk room marks room′ marks′ r (g .good) o;

@@ -14,8 +14,8 @@ use Rattle.counting.specs.declared.Tally.{Tally}
 use Rattle.counting.specs.Tally.{nothing}
 use Rattle.counting.specs.Listing.{Listing}
 use Rattle.lister.specs.declared.Progress.{Progress}
-use Rattle.lister.specs.System.{Read, Sent, more, ended, writeFailed, overBy, KeptOrFailed, TookIn}
-use Rattle.lister.specs.Listed.{Carries, All, Lists, Turned, Finishes, CameTo}
+use Rattle.lister.specs.System.{WasRead, WasSent, moreToCome, ended, writeFailed, overBy, KeptOrFailed, TookIn}
+use Rattle.lister.specs.Listed.{Carries, ChunkListed, Lists, Turned, Finishes, ListingCameTo}
 use Rattle.lister.proofs.Carrying.{part-told}
 
 -- ---- one turn
@@ -38,7 +38,7 @@ module _ {chunk : List ℕ} {read : ℕ} {got : ℤ} {read′ n sent : ℕ} {p :
         ends = k .ends;
         lengths = k .lengths;
         listing = k .listing;
-        was-read = subst (λ (l : List ℕ). Read l read′) all (o .gave (k .taken ++ []) (k .was-read));
+        was-read = subst (λ (l : List ℕ). WasRead l read′) all (o .gave (k .taken ++ []) (k .was-read));
         was-sent = k .was-sent;
       }
 
@@ -52,7 +52,7 @@ module _ {chunk : List ℕ} {read : ℕ} {got : ℤ} {read′ n sent : ℕ} {p :
         at-end = λ q. o .nothing h (none-came got (length chunk) (sym e ∙ z) h (sym w ∙ q));
       }
 
-  pub turned-some : {taken sent′ status : ℕ} {p′ : Progress} → All (p′ .reader .zeros) taken (length (take n chunk)) status
+  pub turned-some : {taken sent′ status : ℕ} {p′ : Progress} → ChunkListed (p′ .reader .zeros) taken (length (take n chunk)) status
       → Lists (take n chunk) sent p taken sent′ p′ → Turned status read′ sent′ p′
   turned-some {taken} a l =
       record {
@@ -72,10 +72,10 @@ pub record Going (chunk₀ room₀ marks₀ text₀ chunk room marks text : List
   pub marks-long : length marks ≡ length marks₀
   pub text-long : length text ≡ length text₀
   pub good : p .reader .zeros ≤ 2
-  pub well : status ≡ more
+  pub well : status ≡ moreToCome
   pub carries : Carries [] read sent p
 
-pub going-first : (chunk room marks text : List ℕ) {read sent status : ℕ} → status ≡ more → Read [] read → Sent [] sent
+pub going-first : (chunk room marks text : List ℕ) {read sent status : ℕ} → status ≡ moreToCome → WasRead [] read → WasSent [] sent
     → {s : AnnexBReader} {t : Tally} → s ≡ new → t ≡ nothing
     → Going chunk room marks text chunk room marks text read sent status (record { reader = s; tally = t })
 going-first chunk room marks text {read} {sent} {status} e r w {s} {t} es et =
@@ -96,7 +96,7 @@ module _ {status read sent : ℕ} {p : Progress} (u : Turned status read sent p)
 
   -- after a turn
   pub going-on : {chunk₀ room₀ marks₀ text₀ chunk room marks text : List ℕ} → length chunk ≡ length chunk₀ → length room ≡ length room₀
-      → length marks ≡ length marks₀ → length text ≡ length text₀ → status ≡ more
+      → length marks ≡ length marks₀ → length text ≡ length text₀ → status ≡ moreToCome
       → Going chunk₀ room₀ marks₀ text₀ chunk room marks text read sent status p
   going-on ec er em et e =
       record {
@@ -110,13 +110,13 @@ module _ {status read sent : ℕ} {p : Progress} (u : Turned status read sent p)
       }
 
   -- the last: the input has ended, and its end is told
-  pub came-whole : {sent′ status′ : ℕ} → status ≡ ended → Finishes sent p sent′ → KeptOrFailed status status′ → CameTo read sent′ status′
+  pub came-whole : {sent′ status′ : ℕ} → status ≡ ended → Finishes sent p sent′ → KeptOrFailed status status′ → ListingCameTo read sent′ status′
   came-whole e f w =
       let whole = f read (none-left (λ h. let z : ⊥ = omega arith in z)) in
       record { at-end = λ _. (u .at-end e, whole); read-failed = λ n h. absurd (n (w h ∙ e)); write-failed = λ _. inl whole }
 
   -- or a call failed
-  pub came-part : (status ≡ ended → ⊥) → CameTo read sent status
+  pub came-part : (status ≡ ended → ⊥) → ListingCameTo read sent status
   came-part n =
       record {
         at-end = λ e. absurd (n e);
@@ -125,7 +125,7 @@ module _ {status read sent : ℕ} {p : Progress} (u : Turned status read sent p)
       }
 
 pub came-more : {chunk₀ room₀ marks₀ text₀ chunk room marks text : List ℕ} {read sent status : ℕ} {p : Progress}
-    → Going chunk₀ room₀ marks₀ text₀ chunk room marks text read sent status p → CameTo read sent status
+    → Going chunk₀ room₀ marks₀ text₀ chunk room marks text read sent status p → ListingCameTo read sent status
 came-more a =
     record {
       at-end = λ e. absurd (let z : ⊥ = omega (arith, a .well) in z);

@@ -25,11 +25,11 @@ unfolding Through
 through-more fd l b n n′ k e = simp length-append (omega arith)
 
 -- reading gave these bytes; this text was handed to writing
-abbrev pub Read : List ℕ → ℕ → Type 0
-Read h n = Through 0 h n
+abbrev pub WasRead : List ℕ → ℕ → Type 0
+WasRead h n = Through 0 h n
 
-abbrev pub Sent : List ℕ → ℕ → Type 0
-Sent w n = Through 1 w n
+abbrev pub WasSent : List ℕ → ℕ → Type 0
+WasSent w n = Through 1 w n
 
 -- when the count of bytes read was n, a read gave nothing: shut as `Through` is
 pub Ended : ℕ → Type 0
@@ -41,8 +41,8 @@ unfolding Ended
 has-ended n = tt
 
 -- what the calls came to: more may come; a read gave nothing, so the input has ended; a read failed; a write failed
-abbrev pub more : ℕ
-more = 0
+abbrev pub moreToCome : ℕ
+moreToCome = 0
 
 abbrev pub ended : ℕ
 ended = 1
@@ -60,7 +60,7 @@ overBy (negsuc k) = readFailed
 
 -- THE CONTRACT OF A READ, by its answer: what it gave stands at the front of the chunk; where it did not fail and gave nothing, the input has ended
 pub record TookIn (chunk : List ℕ) (read : ℕ) (got : ℤ) (read′ : ℕ) : Type 0 where
-  pub gave : (h : List ℕ) → Read h read → Read (h ++ take (clamped got (length chunk)) chunk) read′
+  pub gave : (h : List ℕ) → WasRead h read → WasRead (h ++ take (clamped got (length chunk)) chunk) read′
   pub nothing : 1 ≤ length chunk → got ≡ pos 0 → Ended read′
 
 -- only a handing out says that a write failed, and it says nothing else
@@ -69,5 +69,5 @@ KeptOrFailed status status′ = (status′ ≡ writeFailed → ⊥) → status�
 
 -- THE CONTRACT OF A HANDING OUT
 pub record HandedOut (text : List ℕ) (filled sent status sent′ status′ : ℕ) : Type 0 where
-  pub handed : (w : List ℕ) → Sent w sent → Sent (w ++ take filled text) sent′
+  pub handed : (w : List ℕ) → WasSent w sent → WasSent (w ++ take filled text) sent′
   pub well : KeptOrFailed status status′

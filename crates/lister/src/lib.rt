@@ -10,9 +10,9 @@ mod text;
 ghost use mathlib.Core.Path.{_≡_};
 ghost use Prim.Native.Nat.{_≤_};
 ghost use lib.ListN.{length};
-ghost use Rattle.lister.specs.Listed.{Ready, Carries, Some, All, Lists, Turned, Finishes, CameTo};
+ghost use Rattle.lister.specs.Listed.{Ready, Carries, SomeListed, ChunkListed, Lists, Turned, Finishes, ListingCameTo};
 ghost use mathlib.Core.List.{[]};
-ghost use Rattle.lister.specs.System.{more, KeptOrFailed, Read, Sent};
+ghost use Rattle.lister.specs.System.{moreToCome, KeptOrFailed, WasRead, WasSent};
 use annexb::AnnexBReader;
 use counting::Tally;
 use system::END;
@@ -49,7 +49,7 @@ fn list_some(
 ) -> Piece
     requires { ⌜ 1 ≤ length (now chunk) ⌝ }
     requires { ⌜ Ready (p .reader .zeros) (length (now chunk)) (length (now room)) (length (now marks)) (length (now text)) ⌝ }
-    ensures { λ r. ⌜ Some (r .progress .reader .zeros) (r .taken) (length (now (chunk .entry))) (now (status .entry)) (now (status .exit)) ⌝ }
+    ensures { λ r. ⌜ SomeListed (r .progress .reader .zeros) (r .taken) (length (now (chunk .entry))) (now (status .entry)) (now (status .exit)) ⌝ }
     ensures { λ r. ⌜ Lists (now (chunk .entry)) (now (sent .entry)) p (r .taken) (now (sent .exit)) (r .progress) ⌝ }
 {
     let before = p.reader;
@@ -79,9 +79,9 @@ fn list_chunk(
     sent: &mut u64,
     status: &mut u8,
 ) -> Piece
-    requires { ⌜ now status ≡ more ⌝ }
+    requires { ⌜ now status ≡ moreToCome ⌝ }
     requires { ⌜ Ready (p .reader .zeros) (length (now chunk)) (length (now room)) (length (now marks)) (length (now text)) ⌝ }
-    ensures { λ r. ⌜ All (r .progress .reader .zeros) (r .taken) (length (now (chunk .entry))) (now (status .exit)) ⌝ }
+    ensures { λ r. ⌜ ChunkListed (r .progress .reader .zeros) (r .taken) (length (now (chunk .entry))) (now (status .exit)) ⌝ }
     ensures { λ r. ⌜ Lists (now (chunk .entry)) (now (sent .entry)) p (r .taken) (now (sent .exit)) (r .progress) ⌝ }
 {
     let mut progress = p;
@@ -114,7 +114,7 @@ fn turn(
     sent: &mut u64,
     status: &mut u8,
 ) -> Progress
-    requires { ⌜ now status ≡ more ⌝ }
+    requires { ⌜ now status ≡ moreToCome ⌝ }
     requires { ⌜ Ready (p .reader .zeros) (length (now chunk)) (length (now room)) (length (now marks)) (length (now text)) ⌝ }
     requires { ⌜ (1 ≤ length (now chunk)) × Carries [] (now read) (now sent) p ⌝ }
     ensures { λ r. ⌜ Turned (now (status .exit)) (now (read .exit)) (now (sent .exit)) r ⌝ }
@@ -162,10 +162,10 @@ fn list_all(
     sent: &mut u64,
     status: &mut u8,
 )
-    requires { ⌜ now status ≡ more ⌝ }
+    requires { ⌜ now status ≡ moreToCome ⌝ }
     requires { ⌜ Ready 0 (length (now chunk)) (length (now room)) (length (now marks)) (length (now text)) ⌝ }
-    requires { ⌜ (1 ≤ length (now chunk)) × Read [] (now read) × Sent [] (now sent) ⌝ }
-    ensures { λ _. ⌜ CameTo (now (read .exit)) (now (sent .exit)) (now (status .exit)) ⌝ }
+    requires { ⌜ (1 ≤ length (now chunk)) × WasRead [] (now read) × WasSent [] (now sent) ⌝ }
+    ensures { λ _. ⌜ ListingCameTo (now (read .exit)) (now (sent .exit)) (now (status .exit)) ⌝ }
 {
     let mut progress = Progress {
         reader: AnnexBReader::new(),

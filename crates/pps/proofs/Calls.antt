@@ -14,12 +14,12 @@ use Rattle.bits.specs.Reading.{Ans, got, no, unless, bitsOf, ueCode, Stands, En
 use Rattle.bits.proofs.Codes.{length-bits-of}
 use Rattle.bits.proofs.Reading.{bits-codes}
 use Rattle.pps.specs.Rule.{badGroupCount, idBits, Fields, explicit, sliceGroups}
-use Rattle.desk.specs.Room.{written}
+use Rattle.desk.specs.Room.{withFront}
 use Rattle.pps.specs.Codes.{rowCode, All, groupsCode, FieldsOk, IdsStand}
-use Rattle.pps.specs.Answer.{entryFor, roomed, groupsOf, idsIn}
+use Rattle.pps.specs.Answer.{entryFor, idsRoomed, groupsOf, idsIn}
 use Rattle.pps.proofs.Below.{id-bits-few}
 use Rattle.pps.proofs.Codes.{front-stands, back-stands, groups-codes}
-use Rattle.pps.proofs.Entry.{Passed, passed, entry-passes, groups-few}
+use Rattle.pps.proofs.Entry.{PassedEntry, passed, entry-passes, groups-few}
 use Rattle.pps.proofs.Local.{groups-local}
 
 module _ (s : List ℕ) (p n width units room : ℕ) (f : Fields) (q : ℕ) where
@@ -40,17 +40,17 @@ module _ (s : List ℕ) (p n width units room : ℕ) (f : Fields) (q : ℕ) wher
           let fg : g ≡ f = cc in
           record { good = z; rule = w ∙ h; fits = subst (λ (y : Fields). length (idsIn y) ≤ room) fg (ltb-false room (length (idsIn g)) t) }
 
-      fields : (x : Ans Fields) → entryFor s p room width units (badGroupCount n) ≡ 0 → sliceGroups n width units s p ≡ x → roomed room x ≡ got f q
+      fields : (x : Ans Fields) → entryFor s p room width units (badGroupCount n) ≡ 0 → sliceGroups n width units s p ≡ x → idsRoomed room x ≡ got f q
           → Came
       fields (got g r) z w h = room-test g r z w (ltb room (length (idsIn g))) refl h
       fields (no k) z w h = absurd (let x : _≡_ {A = ℕ} 0 1 = cc in omega arith)
 
-      go : (k : ℕ) → entryFor s p room width units (badGroupCount n) ≡ k → unless no k (roomed room (sliceGroups n width units s p)) ≡ got f q → Came
+      go : (k : ℕ) → entryFor s p room width units (badGroupCount n) ≡ k → unless no k (idsRoomed room (sliceGroups n width units s p)) ≡ got f q → Came
       go zero z h = fields (sliceGroups n width units s p) z refl h
       go (suc k) z h = absurd (let x : _≡_ {A = ℕ} 0 1 = cc in omega arith)
 
   module _ (done : groupsOf s p n width units room ≡ got f q) where
-    picture : Passed s p room width units (badGroupCount n)
+    picture : PassedEntry s p room width units (badGroupCount n)
     picture = passed s p room width units (badGroupCount n) (came done .good)
 
     narrow : idBits n ≤ 32
@@ -119,16 +119,16 @@ ids-stand s p n width units room ids q done =
 -- ---- the id buffer
 
 -- what was read stands at its front
-pub front-kept : (room ids : List ℕ) → take (length ids) (written room ids) ≡ ids
-unfolding written
+pub front-kept : (room ids : List ℕ) → take (length ids) (withFront room ids) ≡ ids
+unfolding withFront
 front-kept room ids = take-at ids (drop (length ids) room) (length ids) refl
 
 -- and memory past it keeps its old bytes
-pub rest-kept : (room ids : List ℕ) → drop (length ids) (written room ids) ≡ drop (length ids) room
-unfolding written
+pub rest-kept : (room ids : List ℕ) → drop (length ids) (withFront room ids) ≡ drop (length ids) room
+unfolding withFront
 rest-kept room ids = drop-at ids (drop (length ids) room) (length ids) refl
 
 -- where no ids are given, by a refusal or another type, it is untouched
-pub untouched : (room : List ℕ) → written room [] ≡ room
-unfolding written
+pub untouched : (room : List ℕ) → withFront room [] ≡ room
+unfolding withFront
 untouched room = refl

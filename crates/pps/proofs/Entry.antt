@@ -43,7 +43,7 @@ not-bad true e = absurd (let z : ⊥ = omega arith in z)
 not-bad false e = refl
 
 -- a call that passes has bytes and ids within the limit, a place within the bytes, and a picture
-pub record Passed (s : List ℕ) (p room width size : ℕ) (badCount : Bool) : Type 0 where
+pub record PassedEntry (s : List ℕ) (p room width size : ℕ) (badCount : Bool) : Type 0 where
   pub entered : Entered s p
   pub ids : room ≤ most
   pub picture : badPicture width size ≡ false
@@ -52,7 +52,7 @@ pub record Passed (s : List ℕ) (p room width size : ℕ) (badCount : Bool) : T
   pub limit : size ≤ mostUnits
   pub count : badCount ≡ false
 
-pub passed : (s : List ℕ) (p room width size : ℕ) (badCount : Bool) → entryFor s p room width size badCount ≡ 0 → Passed s p room width size badCount
+pub passed : (s : List ℕ) (p room width size : ℕ) (badCount : Bool) → entryFor s p room width size badCount ≡ 0 → PassedEntry s p room width size badCount
 unfolding entryFor badPicture
 passed s p room width size badCount e =
     let both = first-zero (entryOf (length s ∷ room ∷ 0 ∷ []) (pastEnd s p)) (cond (badPicture width size || badCount) badGeometry done) e in

@@ -17,7 +17,7 @@ use Rattle.bits.proofs.Codes.{length-bits-of}
 use Rattle.pps.specs.Rule.{leastFrom, idBits, row}
 use Rattle.pps.specs.Codes.{LeastPower}
 use Rattle.pps.specs.Step.{RowSo, IdsPut}
-use Rattle.desk.specs.Room.{written}
+use Rattle.desk.specs.Room.{withFront}
 use Rattle.pps.proofs.Rows.{row-read, row-stands}
 
 least-from : (count b m : ℕ) → m ≤ 2 ^ (b + count) → ((k : ℕ) → m ≤ 2 ^ k → b ≤ k) → LeastPower m (leastFrom count b m)
@@ -106,5 +106,5 @@ ids-put b count s p ids i xs at so h =
     let e : i ≡ count = omega (arith, so .within) in
     record {
       read = row-read (λ s p. readBits s p b) s count p ids i xs at so h ∙ ap (λ (k : ℕ). got (take k xs) at) e;
-      memory = row-stands (λ s p. readBits s p b) s count p ids i xs at so h ∙ ap (λ (k : ℕ). written ids (take k xs)) e;
+      memory = row-stands (λ s p. readBits s p b) s count p ids i xs at so h ∙ ap (λ (k : ℕ). withFront ids (take k xs)) e;
     }

@@ -18,8 +18,8 @@ use Rattle.pps.specs.declared.SliceGroup.the-variants.{Interleaved, Disp
 use Rattle.pps.specs.Rule.{badGroupCount, ueBelow, row, rectangle, idBits, groupId, Fields, interleaved, dispersed, foreground}
 use Rattle.pps.specs.Rule.{changing, runLengths, rectangles, change, groupIds, byType, sliceGroups}
 use Rattle.pps.specs.Step.{RowSo, GoodIds, IdsFit, IdsPut}
-use Rattle.desk.specs.Room.{written}
-use Rattle.pps.specs.Answer.{entryFor, roomed, groupsOf, idsGiven, noRuns, noRects, changeType, whole, refusal, resultOf, GroupsGiven}
+use Rattle.desk.specs.Room.{withFront}
+use Rattle.pps.specs.Answer.{entryFor, idsRoomed, groupsOf, idsGiven, noRuns, noRects, changeType, readWhole, refusal, resultOf, GroupsGiven}
 use Rattle.pps.proofs.Rows.{row-stops, row-read, row-stands, row-length}
 use Rattle.pps.proofs.Ids.{ids-there, ids-short}
 use Rattle.pps.proofs.Below.{IdsKnown, ids-known}
@@ -32,11 +32,11 @@ module _ (from : BitReader) (n width size : ℕ) (s : List ℕ) (p : ℕ) (r : S
   runs-stop xs so k j h e ej er = rw (er, ej, row-stops (ueBelow size badRunLength) s (n + 1) p noRuns i xs at so k h e)
 
   pub runs-end : (xs : List ℕ) → RowSo (ueBelow size badRunLength) s (n + 1) p noRuns i xs at → n + 1 ≤ i → (rects : List SliceRect) → rects ≡ noRects
-      → r ≡ whole (readerAt at) Interleaved n xs rects 0 → r ≡ resultOf from n (runLengths n size s p)
+      → r ≡ readWhole (readerAt at) Interleaved n xs rects 0 → r ≡ resultOf from n (runLengths n size s p)
   unfolding runLengths
   runs-end xs so h rects er e =
       rw (row-read (ueBelow size badRunLength) s (n + 1) p noRuns i xs at so h)
-      (e ∙ ap₂ (λ (x : List ℕ) (y : List SliceRect). whole (readerAt at) Interleaved n x y 0)
+      (e ∙ ap₂ (λ (x : List ℕ) (y : List SliceRect). readWhole (readerAt at) Interleaved n x y 0)
       (row-stands (ueBelow size badRunLength) s (n + 1) p noRuns i xs at so h) er)
 
   pub rects-stop : (xs : List SliceRect) → RowSo (rectangle width size) s n p noRects i xs at → (k j : ℕ) → i < n
@@ -45,11 +45,11 @@ module _ (from : BitReader) (n width size : ℕ) (s : List ℕ) (p : ℕ) (r : S
   rects-stop xs so k j h e ej er = rw (er, ej, row-stops (rectangle width size) s n p noRects i xs at so k h e)
 
   pub rects-end : (xs : List SliceRect) → RowSo (rectangle width size) s n p noRects i xs at → n ≤ i
-      → r ≡ whole (readerAt at) ForegroundAndLeftover n noRuns xs 0 → r ≡ resultOf from n (rectangles n width size s p)
+      → r ≡ readWhole (readerAt at) ForegroundAndLeftover n noRuns xs 0 → r ≡ resultOf from n (rectangles n width size s p)
   unfolding rectangles
   rects-end xs so h e =
       rw (row-read (rectangle width size) s n p noRects i xs at so h)
-      (e ∙ ap (λ (y : List SliceRect). whole (readerAt at) ForegroundAndLeftover n noRuns y 0)
+      (e ∙ ap (λ (y : List SliceRect). readWhole (readerAt at) ForegroundAndLeftover n noRuns y 0)
       (row-stands (rectangle width size) s n p noRects i xs at so h))
 
 -- ---- a change
@@ -65,7 +65,7 @@ module _ (from : BitReader) (n t size : ℕ) (s : List ℕ) (p : ℕ) (r : Slice
   rate-stop flag q k j e f ej er = rw (er, ej, e, f)
 
   pub change-end : (flag : Bool) (q rate e : ℕ) (ct : SliceGroupChangeType) → readBit s p ≡ got flag q → ueBelow size badChangeRate s q ≡ got rate e
-      → ct ≡ changeType t → r ≡ whole (readerAt e) (Changing ct flag rate) n noRuns noRects 0 → r ≡ resultOf from n (change t size s p)
+      → ct ≡ changeType t → r ≡ readWhole (readerAt e) (Changing ct flag rate) n noRuns noRects 0 → r ≡ resultOf from n (change t size s p)
   unfolding change
   change-end flag q rate e ct f g ec er = rw (er, ec, f, g)
 
@@ -73,10 +73,10 @@ module _ (from : BitReader) (n t size : ℕ) (s : List ℕ) (p : ℕ) (r : Slice
 
 module _ (from : BitReader) (n units : ℕ) (s : List ℕ) (p : ℕ) (ids : List ℕ) (r : SliceGroupRead) where
   abbrev Ids : List ℕ → Type 0
-  Ids ids′ = GroupsGiven from n (roomed (length ids) (groupIds n units s p)) ids r ids′
+  Ids ids′ = GroupsGiven from n (idsRoomed (length ids) (groupIds n units s p)) ids r ids′
 
   pub ids-stop : (k j : ℕ) → ueBelow units badPicSize s p ≡ no k → j ≡ k → r ≡ refusal from j → Ids ids
-  unfolding groupIds written
+  unfolding groupIds withFront
   ids-stop k j e ej er = rw e (record { answers = rw (er, ej); memory = refl })
 
   -- m + 1 ids of b bits follow, from q on
@@ -93,7 +93,7 @@ module _ (from : BitReader) (n units : ℕ) (s : List ℕ) (p : ℕ) (ids : List
     short (skipShort g h) = (refl, h)
 
     pub ids-few : (k j : ℕ) → skipped s q ((m + 1) * b) ≡ no k → j ≡ k → r ≡ refusal from j → Ids ids
-    unfolding groupIds written
+    unfolding groupIds withFront
     ids-few k j e ej er =
         let why = short (skip-refused s q ((m + 1) * b) k e) in
         rw (first, ids-short (idBits n) narrow (m + 1) s q (known .entered) (subst (λ (w : ℕ). size s < q + (m + 1) * w) eb (why .1)))
@@ -107,7 +107,7 @@ module _ (from : BitReader) (n units : ℕ) (s : List ℕ) (p : ℕ) (ids : List
       ids-fit h = let w = known .narrow in record { entered = known .entered; bits = all-there; narrow = omega arith; room = h }
 
       pub ids-no-room : length ids < m + 1 → r ≡ refusal from 10 → Ids ids
-      unfolding groupIds written
+      unfolding groupIds withFront
       ids-no-room l er = go (row (groupId n) (m + 1) s q) refl
         where
           go : (x : Ans (List ℕ)) → row (groupId n) (m + 1) s q ≡ x → Ids ids
@@ -118,7 +118,7 @@ module _ (from : BitReader) (n units : ℕ) (s : List ℕ) (p : ℕ) (ids : List
               absurd (ids-there (idBits n) narrow (m + 1) s q k (known .entered) (subst (λ (w : ℕ). q + (m + 1) * w ≤ size s) eb all-there) f)
 
     pub ids-end : (ids′ : List ℕ) (e : ℕ) → IdsPut s q (m + 1) b ids ids′ e → m + 1 ≤ length ids
-        → r ≡ whole (readerAt e) (ExplicitAssignment m) n noRuns noRects (m + 1) → Ids ids′
+        → r ≡ readWhole (readerAt e) (ExplicitAssignment m) n noRuns noRects (m + 1) → Ids ids′
     unfolding groupIds
     ids-end ids′ e put h er =
         let vs = take (m + 1) ids′ in
@@ -130,8 +130,8 @@ module _ (from : BitReader) (n units : ℕ) (s : List ℕ) (p : ℕ) (ids : List
 -- ---- the whole read
 
 no-ids : (from : BitReader) (n : ℕ) (ids : List ℕ) (r : SliceGroupRead) (x : Ans Fields) → idsGiven x ≡ [] → r ≡ resultOf from n x
-    → GroupsGiven from n (roomed (length ids) x) ids r ids
-unfolding written
+    → GroupsGiven from n (idsRoomed (length ids) x) ids r ids
+unfolding withFront
 no-ids from n ids r (got f q) none er = rw (none, le-ltb (length ids) 0 (omega arith)) (record { answers = er; memory = rw none })
 no-ids from n ids r (no k) none er = record { answers = er; memory = refl }
 
@@ -143,17 +143,17 @@ module _ (s : List ℕ) (from : BitReader) (n w z : ℕ) (ids : List ℕ) (r : S
   Given ids′ = GroupsGiven from n (groupsOf s p n w z (length ids)) ids r ids′
 
   pub read-entry : (k : ℕ) → k ≡ entryFor s p (length ids) w z (badGroupCount n) → (k ≡ 0 → ⊥) → r ≡ refusal from k → Given ids
-  unfolding groupsOf written
-  read-entry k e h er = rw (← e, sym (refused no k k refl (roomed (length ids) (sliceGroups n w z s p)) h)) (record { answers = er; memory = refl })
+  unfolding groupsOf withFront
+  read-entry k e h er = rw (← e, sym (refused no k k refl (idsRoomed (length ids) (sliceGroups n w z s p)) h)) (record { answers = er; memory = refl })
 
   module _ (pass : entryFor s p (length ids) w z (badGroupCount n) ≡ 0) where
     pub read-stop : (k j : ℕ) → readUe s p ≡ no k → j ≡ k → r ≡ refusal from j → Given ids
-    unfolding groupsOf sliceGroups written
+    unfolding groupsOf sliceGroups withFront
     read-stop k j e ej er = rw (pass, e) (record { answers = rw (er, ej); memory = refl })
 
     module _ (t q : ℕ) (first : readUe s p ≡ got t q) where
       -- the answer is that of the type's fields
-      by-type : (x : Ans Fields) (ids′ : List ℕ) → byType n w z t s q ≡ x → GroupsGiven from n (roomed (length ids) x) ids r ids′ → Given ids′
+      by-type : (x : Ans Fields) (ids′ : List ℕ) → byType n w z t s q ≡ x → GroupsGiven from n (idsRoomed (length ids) x) ids r ids′ → Given ids′
       unfolding groupsOf sliceGroups
       by-type x ids′ e given = rw (pass, first, e) given
 
@@ -166,7 +166,7 @@ module _ (s : List ℕ) (from : BitReader) (n w z : ℕ) (ids : List ℕ) (r : S
           go (got runs q) = refl
           go (no k) = refl
 
-      pub type-1 : t ≡ 1 → r ≡ whole (readerAt q) Dispersed n noRuns noRects 0 → Given ids
+      pub type-1 : t ≡ 1 → r ≡ readWhole (readerAt q) Dispersed n noRuns noRects 0 → Given ids
       unfolding byType
       type-1 e er = by-type (got dispersed q) ids (rw e) (no-ids from n ids r (got dispersed q) refl er)
 
@@ -193,7 +193,7 @@ module _ (s : List ℕ) (from : BitReader) (n w z : ℕ) (ids : List ℕ) (r : S
           go (got flag q) = go2 flag (ueBelow z badChangeRate s q)
           go (no k) = refl
 
-      pub type-6 : (ids′ : List ℕ) → t ≡ 6 → GroupsGiven from n (roomed (length ids) (groupIds n z s q)) ids r ids′ → Given ids′
+      pub type-6 : (ids′ : List ℕ) → t ≡ 6 → GroupsGiven from n (idsRoomed (length ids) (groupIds n z s q)) ids r ids′ → Given ids′
       unfolding byType
       type-6 ids′ e given = by-type (groupIds n z s q) ids′ (rw e) given
 

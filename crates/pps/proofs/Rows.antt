@@ -9,7 +9,7 @@ use lib.Seq.{take-suc-set, length-take-le, drop-set-lt, drop-drop}
 use Rattle.bits.specs.Reading.{Ans, got, no, andThen}
 use Rattle.pps.specs.Rule.{row}
 use Rattle.pps.specs.Step.{before, RowSo}
-use Rattle.desk.specs.Room.{written}
+use Rattle.desk.specs.Room.{withFront}
 
 before-none : {A : Type 0} (x : Ans (List A)) → before [] x ≡ x
 before-none (got vs q) = refl
@@ -54,8 +54,8 @@ module _ {A : Type 0} (field : List ℕ → ℕ → Ans A) (s : List ℕ) (count
     unfolding row
     row-read h = let e : count - i ≡ 0 = omega arith in so .left ∙ rw (e, append-nil)
 
-    pub row-stands : count ≤ i → xs ≡ written xs₀ (take i xs)
-    unfolding written
+    pub row-stands : count ≤ i → xs ≡ withFront xs₀ (take i xs)
+    unfolding withFront
     row-stands h =
         let long : length (take i xs) ≡ i = length-take-le i xs (omega (arith, so .room, so .long, so .within)) in
         sym (take-append-drop i xs) ∙ ap (λ (l : List A). take i xs ++ l) (so .rest ∙ ap (λ (n : ℕ). drop n xs₀) (sym long))

@@ -21,7 +21,7 @@ use Rattle.pps.specs.declared.SliceGroups.{SliceGroups}
 use Rattle.pps.specs.declared.SliceGroupRead.{SliceGroupRead}
 use Rattle.pps.specs.Rule.{badPicture, badGroupCount, rectangle, Fields, interleaved, dispersed, foreground, changing, explicit}
 use Rattle.pps.specs.Rule.{rectangles, groupIds, sliceGroups}
-use Rattle.desk.specs.Room.{written}
+use Rattle.desk.specs.Room.{withFront}
 
 -- ---- the entry checks: 1, 2, 11
 
@@ -69,12 +69,12 @@ idsIn (changing t flag rate) = []
 idsIn (explicit ids) = ids
 
 -- 10, last of all, where the ids do not fit
-abbrev pub roomed : ℕ → Ans Fields → Ans Fields
-roomed room x = andThen x (λ f q. cond (ltb room (length (idsIn f))) (no noRoom) (got f q))
+abbrev pub idsRoomed : ℕ → Ans Fields → Ans Fields
+idsRoomed room x = andThen x (λ f q. cond (ltb room (length (idsIn f))) (no noRoom) (got f q))
 
 unfoldable pub groupsOf : List ℕ → ℕ → ℕ → ℕ → ℕ → ℕ → Ans Fields
 groupsOf s p n width size room =
-    unless no (entryFor s p room width size (badGroupCount n)) (roomed room (sliceGroups n width size s p))
+    unless no (entryFor s p room width size (badGroupCount n)) (idsRoomed room (sliceGroups n width size s p))
 
 -- the ids that are written
 abbrev pub idsGiven : Ans Fields → List ℕ
@@ -103,7 +103,7 @@ caseOf (changing t flag rate) = Changing (changeType t) flag rate
 caseOf (explicit ids) = ExplicitAssignment (length ids - 1)
 
 abbrev pub runsOf : Fields → List ℕ
-runsOf (interleaved runs) = written noRuns runs
+runsOf (interleaved runs) = withFront noRuns runs
 runsOf dispersed = noRuns
 runsOf (foreground rects) = noRuns
 runsOf (changing t flag rate) = noRuns
@@ -112,7 +112,7 @@ runsOf (explicit ids) = noRuns
 abbrev pub rectsOf : Fields → List SliceRect
 rectsOf (interleaved runs) = noRects
 rectsOf dispersed = noRects
-rectsOf (foreground rects) = written noRects rects
+rectsOf (foreground rects) = withFront noRects rects
 rectsOf (changing t flag rate) = noRects
 rectsOf (explicit ids) = noRects
 
@@ -120,8 +120,8 @@ abbrev pub noGroups : SliceGroups
 noGroups = record { group = Interleaved; «num_slice_groups_minus1» = 0; «run_length_minus1» = noRuns; rectangles = noRects }
 
 -- a read that came to its end
-abbrev pub whole : BitReader → SliceGroup → ℕ → List ℕ → List SliceRect → ℕ → SliceGroupRead
-whole at case n runs rects count =
+abbrev pub readWhole : BitReader → SliceGroup → ℕ → List ℕ → List SliceRect → ℕ → SliceGroupRead
+readWhole at case n runs rects count =
     record {
       number = done;
       reader = at;
@@ -134,13 +134,13 @@ abbrev pub refusal : BitReader → ℕ → SliceGroupRead
 refusal from k = record { number = k; reader = from; groups = noGroups; ids = 0 }
 
 abbrev pub resultOf : BitReader → ℕ → Ans Fields → SliceGroupRead
-resultOf from n (got f q) = whole (readerAt q) (caseOf f) n (runsOf f) (rectsOf f) (length (idsIn f))
+resultOf from n (got f q) = readWhole (readerAt q) (caseOf f) n (runsOf f) (rectsOf f) (length (idsIn f))
 resultOf from n (no k) = refusal from k
 
 -- an answer as the struct has it, and what the lent id buffer holds as the call returns
 pub record GroupsGiven (from : BitReader) (n : ℕ) (a : Ans Fields) (ids : List ℕ) (r : SliceGroupRead) (ids′ : List ℕ) : Type 0 where
   pub answers : r ≡ resultOf from n a
-  pub memory : ids′ ≡ written ids (idsGiven a)
+  pub memory : ids′ ≡ withFront ids (idsGiven a)
 
 -- what the reader of the rectangles, and that of the ids, are to give
 abbrev pub ReadsRectangles : List ℕ → BitReader → BitReader → ℕ → Geometry → SliceGroupRead → Type 0
@@ -148,7 +148,7 @@ ReadsRectangles s from next n g r =
     r ≡ resultOf from n (rectangles n (g .«pic_width_in_mbs») (g .«pic_size_in_map_units») s (next .at .0))
 
 abbrev pub ReadsIds : List ℕ → BitReader → BitReader → ℕ → ℕ → List ℕ → SliceGroupRead → List ℕ → Type 0
-ReadsIds s from next n size ids r ids′ = GroupsGiven from n (roomed (length ids) (groupIds n size s (next .at .0))) ids r ids′
+ReadsIds s from next n size ids r ids′ = GroupsGiven from n (idsRoomed (length ids) (groupIds n size s (next .at .0))) ids r ids′
 
 -- the contract
 abbrev pub ReadsGroups : List ℕ → BitReader → ℕ → Geometry → List ℕ → SliceGroupRead → List ℕ → Type 0

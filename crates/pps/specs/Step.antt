@@ -3,7 +3,7 @@ use Prim.Native.Nat.{ℕ, _+_, _-_, _*_, _≤_}
 use mathlib.Core.Path.{_≡_}
 use mathlib.Core.List.{List, _++_}
 use lib.ListN.{length, take, drop}
-use Rattle.desk.specs.Room.{written}
+use Rattle.desk.specs.Room.{withFront}
 use Rattle.bits.specs.Reading.{Ans, got, andThen, Entered, size, readBits}
 use Rattle.pps.specs.Rule.{row, mostUnits}
 
@@ -36,4 +36,4 @@ pub record GoodIds (s : List ℕ) (p n units : ℕ) : Type 0 where
 -- they were read up to q, into the front of ids
 pub record IdsPut (s : List ℕ) (p count b : ℕ) (ids ids′ : List ℕ) (q : ℕ) : Type 0 where
   pub read : row (λ s p. readBits s p b) count s p ≡ got (take count ids′) q
-  pub memory : ids′ ≡ written ids (take count ids′)
+  pub memory : ids′ ≡ withFront ids (take count ids′)

@@ -1,6 +1,6 @@
 // What a read of slice groups hands back.
 ghost use mathlib.Core.Path.{_≡_};
-ghost use Rattle.pps.specs.Answer.{noRects, noRuns, refusal, whole};
+ghost use Rattle.pps.specs.Answer.{noRects, noRuns, refusal, readWhole};
 use super::SliceGroup;
 use super::SliceGroupRead;
 use super::SliceGroups;
@@ -45,7 +45,7 @@ pub(crate) fn given(
     rectangles: [SliceRect; 7],
     ids: usize,
 ) -> SliceGroupRead
-    ensures { λ r. ⌜ r ≡ whole at group «num_slice_groups_minus1» «run_length_minus1» rectangles ids ⌝ }
+    ensures { λ r. ⌜ r ≡ readWhole at group «num_slice_groups_minus1» «run_length_minus1» rectangles ids ⌝ }
 {
     SliceGroupRead {
         number: desk::DONE,
@@ -67,7 +67,7 @@ pub(crate) fn plain(
     num_slice_groups_minus1: u32,
     ids: usize,
 ) -> SliceGroupRead
-    ensures { λ r. ⌜ r ≡ whole at group «num_slice_groups_minus1» noRuns noRects ids ⌝ }
+    ensures { λ r. ⌜ r ≡ readWhole at group «num_slice_groups_minus1» noRuns noRects ids ⌝ }
 {
     let runs = [0u32; 8];
     given(

@@ -11,11 +11,11 @@ use mathlib.Core.Option.{Option, none, some, Option·some-injective}
 use lib.ListN.{length, drop}
 use lib.Seq.{drop-nil}
 use Rattle.desk.specs.Push.{Out}
-use Rattle.desk.specs.Search.{upTo2, upTo3, stands, next as further, trail}
+use Rattle.desk.specs.Search.{upTo2, upTo3, stands, further, trail}
 use Rattle.desk.specs.Zeros.{two}
 use Rattle.desk.proofs.Search.{none≢some}
 use Rattle.rbsp.specs.Rule.{Legal, badFour, firstBreak, endsThree}
-use Rattle.rbsp.specs.Step.{next, readerAt}
+use Rattle.rbsp.specs.Step.{readStep, readerAfter}
 use Rattle.rbsp.specs.declared.reader.ParseState.{ParseState}
 use Rattle.rbsp.specs.declared.reader.ParseState.the-variants.{Start, PostThree}
 
@@ -175,7 +175,7 @@ abbrev refused : Option (Out ParseState) → Bool
 refused none = true
 refused (some o) = false
 
-refused-is : (e : Bool) (z b : ℕ) → refused (next (cond e PostThree (Start z)) b) ≡ cond e (not (upTo3 b)) (two z && upTo2 b)
+refused-is : (e : Bool) (z b : ℕ) → refused (readStep (cond e PostThree (Start z)) b) ≡ cond e (not (upTo3 b)) (two z && upTo2 b)
 refused-is true z zero = refl
 refused-is true z (suc zero) = refl
 refused-is true z (suc (suc zero)) = refl
@@ -189,23 +189,23 @@ refused-is false (suc (suc z)) (suc (suc zero)) = refl
 refused-is false (suc (suc z)) (suc (suc (suc zero))) = refl
 refused-is false (suc (suc z)) (suc (suc (suc (suc b)))) = refl
 
-pub next-forbids : (h : List ℕ) (b : ℕ) (r : Option (Out ParseState)) → next (readerAt 0 h) b ≡ r → forbids h b ≡ refused r
+pub next-forbids : (h : List ℕ) (b : ℕ) (r : Option (Out ParseState)) → readStep (readerAfter 0 h) b ≡ r → forbids h b ≡ refused r
 next-forbids h b r e = sym (refused-is (endsThree h) (trail h) b) ∙ ap refused e
 
 -- a byte that is taken breaks nothing, with the first k bytes dropped unexamined
-pub taken-unbroken : (k : ℕ) (h : List ℕ) (b : ℕ) (o : Out ParseState) → firstBreak (drop k h) ≡ none → next (readerAt k h) b ≡ some o
+pub taken-unbroken : (k : ℕ) (h : List ℕ) (b : ℕ) (o : Out ParseState) → firstBreak (drop k h) ≡ none → readStep (readerAfter k h) b ≡ some o
     → firstBreak (drop k (h ++ b ∷ [])) ≡ none
 taken-unbroken zero h b o n e = break-more h b n ∙ ap (λ (c : Bool). brokenBy c (length h)) (next-forbids h b (some o) e)
 taken-unbroken (suc k) [] b o n e = ap firstBreak (drop-nil k)
 taken-unbroken (suc k) (x ∷ h) b o n e = taken-unbroken k h b o n e
 
 -- a forbidden byte completes the first break
-pub record Completes (k : ℕ) (h : List ℕ) (b : ℕ) : Type 0 where
+pub record CompletesBreak (k : ℕ) (h : List ℕ) (b : ℕ) : Type 0 where
   pub place : ℕ
   pub place-is : length h ≡ k + place
   pub breaks : firstBreak (drop k (h ++ b ∷ [])) ≡ some place
 
-pub forbidden-breaks : (k : ℕ) (h : List ℕ) (b : ℕ) → firstBreak (drop k h) ≡ none → next (readerAt k h) b ≡ none → Completes k h b
+pub forbidden-breaks : (k : ℕ) (h : List ℕ) (b : ℕ) → firstBreak (drop k h) ≡ none → readStep (readerAfter k h) b ≡ none → CompletesBreak k h b
 forbidden-breaks zero h b n e =
     record {
       place = length h;

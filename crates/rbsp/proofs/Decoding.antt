@@ -12,16 +12,16 @@ use lib.Dec.{ltb}
 use borrow.Author.Tests.{le-ltb, lt-ltb}
 use Rattle.desk.specs.Numbers.{most, anyOver, entryOf}
 use Rattle.desk.specs.Push.{Answer, Seen, pushOf, pushBy}
-use Rattle.desk.specs.Room.{written}
+use Rattle.desk.specs.Room.{withFront}
 use Rattle.desk.specs.Search.{is3, stands, first, trail}
 use Rattle.desk.specs.Zeros.{two}
 use Rattle.desk.proofs.Entering.{entry-done, entry-passed}
 use Rattle.desk.proofs.Lists.{snoc-ind}
-use Rattle.desk.proofs.Room.{written-none}
+use Rattle.desk.proofs.Room.{with-front-none}
 use Rattle.desk.proofs.Search.{first-is}
 use Rattle.desk.proofs.Taking.{whole-push}
 use Rattle.rbsp.specs.Rule.{unescape, firstBreak}
-use Rattle.rbsp.specs.Step.{takes, next, skipping, readerAt, readEntry}
+use Rattle.rbsp.specs.Step.{takes, readStep, skipping, readerAfter, readEntry}
 use Rattle.rbsp.specs.Answer.{refuses, fills, decodeTail, decodeKept, decodeOf, numberOf, valueOf, Decodes, Fillable, Surveys, ReadPush}
 use Rattle.rbsp.specs.declared.nal.Decoded.{Decoded}
 use Rattle.rbsp.specs.declared.nal.Decoded.the-variants.{Own, Filled, TooLong, Empty, Forbidden, NoRoom}
@@ -42,7 +42,7 @@ pub record Surveying (tail : List ℕ) (state : ParseState) (count i : ℕ) : Ty
   pub within : i ≤ length tail
   pub few : count ≤ i
   pub unbroken : firstBreak (take i tail) ≡ none
-  pub state-is : readerAt 0 (take i tail) ≡ state
+  pub state-is : readerAfter 0 (take i tail) ≡ state
   pub count-is : length (unescape (take i tail)) ≡ count
 
 pub surveying-none : (tail : List ℕ) → Surveying tail (skipping 0) 0 0
@@ -53,27 +53,27 @@ module _ {tail : List ℕ} {state : ParseState} {count i : ℕ} (v : Surveying t
   one-more : take (i + 1) tail ≡ take i tail ++ getD tail i 0 ∷ []
   one-more = ap (λ (n : ℕ). take n tail) (add-one i) ∙ take-suc tail i 0 h
 
-  pub surveying-more : (after : ParseState) (n : ℕ) → n ≤ 1 → next state (getD tail i 0) ≡ some (takes after (replicate n (getD tail i 0)))
+  pub surveying-more : (after : ParseState) (n : ℕ) → n ≤ 1 → readStep state (getD tail i 0) ≡ some (takes after (replicate n (getD tail i 0)))
       → Surveying tail after (count + n) (i + 1)
   surveying-more after n few q =
       let b = getD tail i 0 in
-      let q′ : next (readerAt 0 (take i tail)) b ≡ some (takes after (replicate n b)) = ap (λ (s : ParseState). next s b) (v .state-is) ∙ q in
+      let q′ : readStep (readerAfter 0 (take i tail)) b ≡ some (takes after (replicate n b)) = ap (λ (s : ParseState). readStep s b) (v .state-is) ∙ q in
       let e = read-follows 0 .more (take i tail) b (takes after (replicate n b)) q′ in
       let c = v .count-is in
       record {
         within = omega arith;
         few = omega (arith, v .few);
         unbroken = ap firstBreak one-more ∙ taken-unbroken 0 (take i tail) b (takes after (replicate n b)) (v .unbroken) q′;
-        state-is = ap (readerAt 0) one-more ∙ ap (λ (x : Seen ParseState). x .state) e;
+        state-is = ap (readerAfter 0) one-more ∙ ap (λ (x : Seen ParseState). x .state) e;
         count-is =
             ap (λ (l : List ℕ). length (unescape l)) one-more ∙ ap (λ (x : Seen ParseState). length (x .bytes)) e
             ∙ length-append (unescape (take i tail)) (replicate n b) ∙ ap₂ _+_ c (length-replicate n b);
       }
 
-  pub surveying-forbidden : next state (getD tail i 0) ≡ none → firstBreak tail ≡ some i
+  pub surveying-forbidden : readStep state (getD tail i 0) ≡ none → firstBreak tail ≡ some i
   surveying-forbidden q =
       let b = getD tail i 0 in
-      let f = forbidden-broken 0 (take i tail) b (drop (suc i) tail) (v .unbroken) (ap (λ (s : ParseState). next s b) (v .state-is) ∙ q) in
+      let f = forbidden-broken 0 (take i tail) b (drop (suc i) tail) (v .unbroken) (ap (λ (s : ParseState). readStep s b) (v .state-is) ∙ q) in
       let p = f .place-is in
       let at : f .place ≡ i = omega (arith, length-take-le i tail (v .within)) in
       ap firstBreak (split-at tail i 0 h) ∙ f .breaks ∙ ap some at
@@ -148,7 +148,7 @@ module _ (w header : ℕ) (tail : List ℕ) (nf : suc (length tail) ≤ most) (w
 -- an answer that writes nothing
 alone : (nal room : List ℕ) (r : Decoded) (n : ℕ) (v : Option ℕ) → decodeOf nal (length room) ≡ record { number = n; value = v; bytes = [] }
     → numberOf r ≡ n → valueOf r ≡ v → Decodes nal room room r
-alone nal room r n v e en ev = record { number-is = rw e en; value-is = rw e ev; room-is = rw e (written-none room) }
+alone nal room r n v e en ev = record { number-is = rw e en; value-is = rw e ev; room-is = rw e (with-front-none room) }
 
 pub says-long : (nal room : List ℕ) → anyOver (length nal ∷ length room ∷ []) ≡ true → Decodes nal room room TooLong
 unfolding decodeOf
@@ -186,14 +186,14 @@ says-filled (x ∷ tail) room room′ n r f e l p =
     let enter : readEntry (skipping 1) (length nal) (length room) 0 ≡ 0 =
     entry-done (length nal ∷ length room ∷ 0 ∷ []) false (f .nal-few, (f .room-few, (omega arith, tt))) refl in
     let w = whole-push (read-follows 1) nal (length room) 0 (legal-accepts 1 nal (f .unbroken)) (omega (arith, f .kept-is)) (omega arith) in
-    let bytes : pushBy next readEntry (skipping 1) nal (length room) 0 .bytes ≡ unescape tail =
-    ap (λ (k : ℕ). pushOf next k (skipping 1) nal (length room) 0 .bytes) enter ∙ ap (λ (a : Answer ParseState). a .bytes) w in
+    let bytes : pushBy readStep readEntry (skipping 1) nal (length room) 0 .bytes ≡ unescape tail =
+    ap (λ (k : ℕ). pushOf readStep k (skipping 1) nal (length room) 0 .bytes) enter ∙ ap (λ (a : Answer ParseState). a .bytes) w in
     let d =
     decode-filled (length room) x tail (f .nal-few) (f .room-few) (f .unbroken) (λ q. e (omega (arith, f .kept-is))) (omega (arith, f .kept-is)) in
     record {
       number-is = rw d refl;
       value-is = rw d (ap some (p .wrote-is ∙ ap length bytes));
-      room-is = rw d (p .room ∙ ap (written room) bytes);
+      room-is = rw d (p .room ∙ ap (withFront room) bytes);
     }
 
 -- ---- what the entry checks and the first pass tell

@@ -8,13 +8,13 @@ use mathlib.Core.List.{List, [], _∷_, _++_, append-assoc}
 use mathlib.Core.Option.{Option, none, some, Option·some-injective}
 use lib.ListN.{length, take, drop, length-drop}
 use Rattle.desk.specs.Push.{Out, seen, seenAfter, Follows}
-use Rattle.desk.specs.Search.{upTo3, stands, next as further, first, trail}
+use Rattle.desk.specs.Search.{upTo3, stands, further, first, trail}
 use Rattle.desk.specs.Zeros.{zerosAfter}
 use Rattle.desk.proofs.Choice.{ap-cond, cond-ind}
 use Rattle.desk.proofs.Lists.{snoc-ind, trail-past, trail-cons}
 use Rattle.desk.proofs.Search.{trail-more, stays}
 use Rattle.rbsp.specs.Rule.{Escapes, escape, escapeAt, escapeBy}
-use Rattle.rbsp.specs.Step.{behindThree, goesAlone, zeros, stuffs, escapes, writes}
+use Rattle.rbsp.specs.Step.{behindThree, goesAlone, zeros, stuffs, writeStep, writes}
 use Rattle.rbsp.specs.declared.writer.ByteWriter.{ByteWriter}
 
 -- the rule byte by byte: 00 00 and a byte up to 03 give 00 00 03, and the third byte begins anew
@@ -145,7 +145,7 @@ escape-trail =
     none-left zero zero e c y = let x : ⊥ = omega arith in absurd x
     none-left zero (suc z) e c y = let x : ⊥ = omega arith in absurd x
 
-writes-more : (h : List ℕ) (b : ℕ) (o : Out ByteWriter) → escapes (writes h .state) b ≡ some o → writes (h ++ b ∷ []) ≡ seenAfter (writes h) o
+writes-more : (h : List ℕ) (b : ℕ) (o : Out ByteWriter) → writeStep (writes h .state) b ≡ some o → writes (h ++ b ∷ []) ≡ seenAfter (writes h) o
 writes-more h b o q =
     let z = trail (escape h) in
     let e = escape-more h b in
@@ -153,6 +153,6 @@ writes-more h b o q =
     (λ i. seen (zeros (s i)) (e i) []) ∙ ap (seenAfter (writes h)) (out-of z b (stuffs z b) o refl q)
 
 -- THE WRITER'S STEP GIVES THE RULE
-pub write-follows : Follows escapes (zeros 0) writes
+pub write-follows : Follows writeStep (zeros 0) writes
 unfolding escape
 write-follows = record { new = refl; more = writes-more }

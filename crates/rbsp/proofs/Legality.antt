@@ -13,7 +13,7 @@ use borrow.Author.Tests.{leb-true, leb-false}
 use Rattle.desk.specs.Push.{Out, Seen, acceptsBy, accepts}
 use Rattle.desk.proofs.Search.{none≢some}
 use Rattle.rbsp.specs.Rule.{firstBreak}
-use Rattle.rbsp.specs.Step.{next, skipping, readerAt}
+use Rattle.rbsp.specs.Step.{readStep, skipping, readerAfter}
 use Rattle.rbsp.specs.declared.reader.ParseState.{ParseState}
 use Rattle.rbsp.proofs.Breaking.{break-stays, taken-unbroken, forbidden-breaks}
 use Rattle.rbsp.proofs.Unescaping.{reader-new, read-follows}
@@ -30,7 +30,7 @@ front-unbroken k h t e = go (leb k (length h)) refl
     go true q = at (firstBreak (drop k h)) refl (leb-true k (length h) q)
     go false q = let less : length h ≤ k = le-of-lt (leb-false k (length h) q) in ap firstBreak (drop-of-length-le h less)
 
-state-more : (k : ℕ) (h : List ℕ) (b : ℕ) (o : Out ParseState) → next (readerAt k h) b ≡ some o → readerAt k (h ++ b ∷ []) ≡ o .after
+state-more : (k : ℕ) (h : List ℕ) (b : ℕ) (o : Out ParseState) → readStep (readerAfter k h) b ≡ some o → readerAfter k (h ++ b ∷ []) ≡ o .after
 state-more k h b o q = ap (λ (v : Seen ParseState). v .state) (read-follows k .more h b o q)
 
 -- a forbidden byte is the last of the first window that breaks, however the list goes on
@@ -39,7 +39,7 @@ pub record Broken (k : ℕ) (h : List ℕ) (s : List ℕ) : Type 0 where
   pub place-is : length h ≡ k + place
   pub breaks : firstBreak (drop k s) ≡ some place
 
-pub forbidden-broken : (k : ℕ) (h : List ℕ) (b : ℕ) (t : List ℕ) → firstBreak (drop k h) ≡ none → next (readerAt k h) b ≡ none
+pub forbidden-broken : (k : ℕ) (h : List ℕ) (b : ℕ) (t : List ℕ) → firstBreak (drop k h) ≡ none → readStep (readerAfter k h) b ≡ none
     → Broken k h (h ++ b ∷ t)
 forbidden-broken k h b t n q =
     let c = forbidden-breaks k h b n q in
@@ -53,32 +53,32 @@ forbidden-broken k h b t n q =
           ∙ break-stays (drop k (h ++ b ∷ [])) t (c .place) (c .breaks);
     }
 
-pub unbroken-accepts : (k : ℕ) (h t : List ℕ) → firstBreak (drop k (h ++ t)) ≡ none → accepts next (readerAt k h) t ≡ true
+pub unbroken-accepts : (k : ℕ) (h t : List ℕ) → firstBreak (drop k (h ++ t)) ≡ none → accepts readStep (readerAfter k h) t ≡ true
 unbroken-accepts k h [] e = refl
 unbroken-accepts k h (b ∷ t) e =
-    go (next (readerAt k h) b) refl (unbroken-accepts k (h ++ b ∷ []) t (ap (λ (l : List ℕ). firstBreak (drop k l)) (append-snoc h b t) ∙ e))
+    go (readStep (readerAfter k h) b) refl (unbroken-accepts k (h ++ b ∷ []) t (ap (λ (l : List ℕ). firstBreak (drop k l)) (append-snoc h b t) ∙ e))
   where
-    go : (r : Option (Out ParseState)) → next (readerAt k h) b ≡ r → accepts next (readerAt k (h ++ b ∷ [])) t ≡ true
-        → acceptsBy r (λ o. accepts next (o .after) t) ≡ true
+    go : (r : Option (Out ParseState)) → readStep (readerAfter k h) b ≡ r → accepts readStep (readerAfter k (h ++ b ∷ [])) t ≡ true
+        → acceptsBy r (λ o. accepts readStep (o .after) t) ≡ true
     go none q i = absurd (none≢some (sym e ∙ forbidden-broken k h b t (front-unbroken k h (b ∷ t) e) q .breaks))
-    go (some o) q i = ap (λ (s : ParseState). accepts next s t) (sym (state-more k h b o q)) ∙ i
+    go (some o) q i = ap (λ (s : ParseState). accepts readStep s t) (sym (state-more k h b o q)) ∙ i
 
-pub accepts-unbroken : (k : ℕ) (h t : List ℕ) → firstBreak (drop k h) ≡ none → accepts next (readerAt k h) t ≡ true
+pub accepts-unbroken : (k : ℕ) (h t : List ℕ) → firstBreak (drop k h) ≡ none → accepts readStep (readerAfter k h) t ≡ true
     → firstBreak (drop k (h ++ t)) ≡ none
 accepts-unbroken k h [] n e = ap (λ (l : List ℕ). firstBreak (drop k l)) (append-nil h) ∙ n
-accepts-unbroken k h (b ∷ t) n e = go (next (readerAt k h) b) refl e (λ m a. accepts-unbroken k (h ++ b ∷ []) t m a)
+accepts-unbroken k h (b ∷ t) n e = go (readStep (readerAfter k h) b) refl e (λ m a. accepts-unbroken k (h ++ b ∷ []) t m a)
   where
-    go : (r : Option (Out ParseState)) → next (readerAt k h) b ≡ r → acceptsBy r (λ o. accepts next (o .after) t) ≡ true
-        → (firstBreak (drop k (h ++ b ∷ [])) ≡ none → accepts next (readerAt k (h ++ b ∷ [])) t ≡ true
+    go : (r : Option (Out ParseState)) → readStep (readerAfter k h) b ≡ r → acceptsBy r (λ o. accepts readStep (o .after) t) ≡ true
+        → (firstBreak (drop k (h ++ b ∷ [])) ≡ none → accepts readStep (readerAfter k (h ++ b ∷ [])) t ≡ true
         → firstBreak (drop k ((h ++ b ∷ []) ++ t)) ≡ none) → firstBreak (drop k (h ++ b ∷ t)) ≡ none
     go none q a ih = absurd (false≢true a)
     go (some o) q a ih =
         ap (λ (l : List ℕ). firstBreak (drop k l)) (sym (append-snoc h b t))
-        ∙ ih (taken-unbroken k h b o n q) (ap (λ (s : ParseState). accepts next s t) (state-more k h b o q) ∙ a)
+        ∙ ih (taken-unbroken k h b o n q) (ap (λ (s : ParseState). accepts readStep s t) (state-more k h b o q) ∙ a)
 
 -- THE READER ACCEPTS EXACTLY THE LEGAL LISTS, from a new state
-pub accepts-legal : (k : ℕ) (s : List ℕ) → accepts next (skipping k) s ≡ true → firstBreak (drop k s) ≡ none
-accepts-legal k s e = accepts-unbroken k [] s (ap firstBreak (drop-nil k)) (ap (λ (x : ParseState). accepts next x s) (reader-new k) ∙ e)
+pub accepts-legal : (k : ℕ) (s : List ℕ) → accepts readStep (skipping k) s ≡ true → firstBreak (drop k s) ≡ none
+accepts-legal k s e = accepts-unbroken k [] s (ap firstBreak (drop-nil k)) (ap (λ (x : ParseState). accepts readStep x s) (reader-new k) ∙ e)
 
-pub legal-accepts : (k : ℕ) (s : List ℕ) → firstBreak (drop k s) ≡ none → accepts next (skipping k) s ≡ true
-legal-accepts k s e = ap (λ (x : ParseState). accepts next x s) (sym (reader-new k)) ∙ unbroken-accepts k [] s e
+pub legal-accepts : (k : ℕ) (s : List ℕ) → firstBreak (drop k s) ≡ none → accepts readStep (skipping k) s ≡ true
+legal-accepts k s e = ap (λ (x : ParseState). accepts readStep x s) (sym (reader-new k)) ∙ unbroken-accepts k [] s e

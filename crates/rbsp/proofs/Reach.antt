@@ -10,7 +10,7 @@ use Rattle.desk.specs.Push.{Answer, answers, run, pushOf}
 use Rattle.desk.proofs.Entering.{entry-long}
 use Rattle.desk.proofs.Taking.{push-refused}
 use Rattle.rbsp.specs.Rule.{unescape}
-use Rattle.rbsp.specs.Step.{next, skipping, readEntry, escapes, writeEntry, zeros, badState}
+use Rattle.rbsp.specs.Step.{readStep, skipping, readEntry, writeStep, writeEntry, zeros, badReader}
 use Rattle.rbsp.specs.Answer.{refuses, decodeOf}
 use Rattle.rbsp.specs.declared.reader.ParseState.{ParseState}
 use Rattle.rbsp.specs.declared.reader.ParseState.the-variants.{Start, PostThree}
@@ -18,10 +18,10 @@ use Rattle.rbsp.specs.declared.writer.ByteWriter.{ByteWriter}
 
 -- a push of the reader, and of the writer, with the entry checks
 abbrev reader : ParseState → List ℕ → ℕ → Answer ParseState
-reader s chunk w = pushOf next (readEntry s (length chunk) w 0) s chunk w 0
+reader s chunk w = pushOf readStep (readEntry s (length chunk) w 0) s chunk w 0
 
 abbrev writer : ByteWriter → List ℕ → ℕ → Answer ByteWriter
-writer s chunk w = pushOf escapes (writeEntry s (length chunk) w 0) s chunk w 0
+writer s chunk w = pushOf writeStep (writeEntry s (length chunk) w 0) s chunk w 0
 
 pub record Reached : Type 0 where
   -- reading: a removed 03 is taken with no room; 1 is given for a room of one element too many; 2 for a stored run of 3; 7 whatever room is left
@@ -65,8 +65,8 @@ reached =
 -- a chunk or a NAL that is too long answers 1 too, whatever the state is
 pub chunk-1 : (s : ParseState) (chunk : List ℕ) (w : ℕ) → most < length chunk → reader s chunk w ≡ answers 1 s
 chunk-1 s chunk w h =
-    ap (λ (e : ℕ). pushOf next e s chunk w 0) (entry-long (length chunk ∷ w ∷ 0 ∷ []) (badState s) (rw (lt-ltb most (length chunk) h)))
-    ∙ push-refused next 1 s chunk w 0 (λ e. let x : ⊥ = omega arith in x)
+    ap (λ (e : ℕ). pushOf readStep e s chunk w 0) (entry-long (length chunk ∷ w ∷ 0 ∷ []) (badReader s) (rw (lt-ltb most (length chunk) h)))
+    ∙ push-refused readStep 1 s chunk w 0 (λ e. let x : ⊥ = omega arith in x)
 
 pub nal-1 : (nal : List ℕ) (w : ℕ) → most < length nal → decodeOf nal w ≡ refuses 1
 unfolding decodeOf

@@ -19,9 +19,9 @@ use Rattle.desk.proofs.Lists.{trail-few}
 use Rattle.desk.proofs.Taking.{never-7, takes-one}
 use Rattle.desk.proofs.Ways.{way}
 use Rattle.rbsp.specs.Rule.{escape, Legal, endsThree}
-use Rattle.rbsp.specs.Answer.{ReadPush, WritePush, newWriter}
+use Rattle.rbsp.specs.Answer.{ReadPush, WritePush, newByteWriter}
 use Rattle.rbsp.specs.Promise.{ReadWay, WriteWay}
-use Rattle.rbsp.specs.Step.{takes, next, skipping, badState, readEntry, readerAt, stuffs, behindThree, goesAlone, escapes, writeEntry, writes}
+use Rattle.rbsp.specs.Step.{takes, readStep, skipping, badReader, readEntry, readerAfter, stuffs, behindThree, goesAlone, writeStep, writeEntry, writes}
 use Rattle.rbsp.specs.declared.reader.ParseState.{ParseState}
 use Rattle.rbsp.specs.declared.reader.ParseState.the-variants.{Start, PostThree}
 use Rattle.rbsp.specs.declared.reader.Pushed.{Pushed}
@@ -35,33 +35,33 @@ use Rattle.rbsp.proofs.Unescaping.{reader-new, read-follows}
 
 -- ---- no run leaves a bad state
 
-pub read-good : (skip : ℕ) (h : List ℕ) → badState (readerAt skip h) ≡ false
-read-good zero h = cond-ind (λ (s : ParseState). badState s ≡ false) (endsThree h) PostThree (Start (trail h)) refl (le-ltb 2 (trail h) (trail-few h))
+pub read-good : (skip : ℕ) (h : List ℕ) → badReader (readerAfter skip h) ≡ false
+read-good zero h = cond-ind (λ (s : ParseState). badReader s ≡ false) (endsThree h) PostThree (Start (trail h)) refl (le-ltb 2 (trail h) (trail-few h))
 read-good (suc k) [] = refl
 read-good (suc k) (b ∷ h) = read-good k h
 
-pub new-good : (skip : ℕ) → badState (skipping skip) ≡ false
-new-good skip = ap badState (sym (reader-new skip)) ∙ read-good skip []
+pub new-good : (skip : ℕ) → badReader (skipping skip) ≡ false
+new-good skip = ap badReader (sym (reader-new skip)) ∙ read-good skip []
 
 pub write-good : (h : List ℕ) → ltb 2 (writes h .state .«zero_count») ≡ false
 write-good h = le-ltb 2 (trail (escape h)) (trail-few (escape h))
 
 -- ---- at least one byte
 
-next-few : (s : ParseState) (b : ℕ) (o : Out ParseState) → next s b ≡ some o → (length (o .bytes) ≤ 1) × (length (marked (o .mark) []) ≤ 0)
+next-few : (s : ParseState) (b : ℕ) (o : Out ParseState) → readStep s b ≡ some o → (length (o .bytes) ≤ 1) × (length (marked (o .mark) []) ≤ 0)
 next-few s b o e = let q = next-short s b o e in (q .one, subst (λ (c : Bool). length (marked c []) ≤ 0) (sym (q .no-mark)) (le-refl 0))
 
 abbrev Few : Out ByteWriter → Type 0
 Few o = (length (o .bytes) ≤ 2) × (length (marked (o .mark) []) ≤ 0)
 
-out-few : (s : ByteWriter) (b : ℕ) (o : Out ByteWriter) → escapes s b ≡ some o → Few o
+out-few : (s : ByteWriter) (b : ℕ) (o : Out ByteWriter) → writeStep s b ≡ some o → Few o
 out-few s b o = go (stuffs (s .«zero_count») b)
   where
     go : (c : Bool) → cond c (some (behindThree b)) (some (goesAlone (s .«zero_count») b)) ≡ some o → Few o
     go true e = subst Few (Option·some-injective _ o e) (omega arith, le-refl 0)
     go false e = subst Few (Option·some-injective _ o e) (omega arith, le-refl 0)
 
-never-forbidden : (s : ByteWriter) (b : ℕ) → escapes s b ≡ none → ⊥
+never-forbidden : (s : ByteWriter) (b : ℕ) → writeStep s b ≡ none → ⊥
 never-forbidden s b = go (stuffs (s .«zero_count») b) _ _
   where
     go : (c : Bool) (x y : Out ByteWriter) → cond c (some x) (some y) ≡ none → ⊥
@@ -71,25 +71,25 @@ never-forbidden s b = go (stuffs (s .«zero_count») b) _ _
 -- A PUSH OF THE WRITER answers 0, 1 or 2, by its entry checks alone
 pub write-number : (s : ByteWriter) (chunk out out′ : List ℕ) (r : Written) → WritePush s chunk out out′ r
     → r .number ≡ writeEntry s (length chunk) (length out) 0
-write-number s chunk out out′ r o = o .number-is ∙ never-7 escapes never-forbidden (writeEntry s (length chunk) (length out) 0) s chunk (length out) 0
+write-number s chunk out out′ r o = o .number-is ∙ never-7 writeStep never-forbidden (writeEntry s (length chunk) (length out) 0) s chunk (length out) 0
 
 -- ROOM 1 TAKES A BYTE of what is lent, wherever the answer is 0
 pub read-one : (s : ParseState) (b : ℕ) (bs out out′ : List ℕ) (r : Pushed) → ReadPush s (b ∷ bs) out out′ r → r .number ≡ 0 → 1 ≤ length out
     → 1 ≤ r .taken
 read-one s b bs out out′ r o z h =
     let n =
-    takes-one next s b bs (readEntry s (length (b ∷ bs)) (length out) 0) (length out) 0
+    takes-one readStep s b bs (readEntry s (length (b ∷ bs)) (length out) 0) (length out) 0
     (λ x e. let f = next-few s b x e in let k = f .0 in (omega arith, f .1)) (sym (o .number-is) ∙ z) in
     omega (arith, o .taken-is)
 
 -- and no room is wanted where the byte is removed or skipped
 pub read-nothing : (s s′ : ParseState) (b : ℕ) (bs out out′ : List ℕ) (r : Pushed) → ReadPush s (b ∷ bs) out out′ r → r .number ≡ 0
-    → next s b ≡ some (takes s′ []) → 1 ≤ r .taken
+    → readStep s b ≡ some (takes s′ []) → 1 ≤ r .taken
 read-nothing s s′ b bs out out′ r o z e =
-    let n = takes-one next s b bs (readEntry s (length (b ∷ bs)) (length out) 0) (length out) 0 released-none (sym (o .number-is) ∙ z) in
+    let n = takes-one readStep s b bs (readEntry s (length (b ∷ bs)) (length out) 0) (length out) 0 released-none (sym (o .number-is) ∙ z) in
     omega (arith, o .taken-is)
   where
-    released-none : (x : Out ParseState) → next s b ≡ some x → (length (x .bytes) ≤ length out) × (length (marked (x .mark) []) ≤ 0)
+    released-none : (x : Out ParseState) → readStep s b ≡ some x → (length (x .bytes) ≤ length out) × (length (marked (x .mark) []) ≤ 0)
     released-none x q =
         subst (λ (y : Out ParseState). (length (y .bytes) ≤ length out) × (length (marked (y .mark) []) ≤ 0))
         (Option·some-injective (takes s′ []) x (sym e ∙ q)) (zero-le, zero-le)
@@ -99,7 +99,7 @@ pub write-one : (s : ByteWriter) (b : ℕ) (bs out out′ : List ℕ) (r : Writt
     → 1 ≤ r .taken
 write-one s b bs out out′ r o z h =
     let n =
-    takes-one escapes s b bs (writeEntry s (length (b ∷ bs)) (length out) 0) (length out) 0
+    takes-one writeStep s b bs (writeEntry s (length (b ∷ bs)) (length out) 0) (length out) 0
     (λ x e. let f = out-few s b x e in let k = f .0 in (omega arith, f .1)) (sym (o .number-is) ∙ z) in
     omega (arith, o .taken-is)
 
@@ -109,11 +109,11 @@ none-wanted : (chunk : List ℕ) → 0 * length chunk ≤ 0
 none-wanted chunk = omega (arith, zero-mul (length chunk))
 
 -- AS MUCH ROOM AS BYTES, on reading: where the answer is 0 all is taken
-pub read-everything : (k : ℕ) (h chunk out out′ : List ℕ) (r : Pushed) → ReadPush (readerAt k h) chunk out out′ r → r .number ≡ 0
+pub read-everything : (k : ℕ) (h chunk out out′ : List ℕ) (r : Pushed) → ReadPush (readerAfter k h) chunk out out′ r → r .number ≡ 0
     → length chunk ≤ length out → r .taken ≡ length chunk
 read-everything k h chunk out out′ r o z f =
     o .taken-is
-    ∙ enough-room (read-follows k) 1 0 next-few h chunk (readEntry (readerAt k h) (length chunk) (length out) 0) (length out) 0 (omega arith)
+    ∙ enough-room (read-follows k) 1 0 next-few h chunk (readEntry (readerAfter k h) (length chunk) (length out) 0) (length out) 0 (omega arith)
     (none-wanted chunk)
     (sym (o .number-is) ∙ z)
 
@@ -127,12 +127,12 @@ write-everything h chunk out out′ r o z f =
 
 -- ---- there is a way: byte by byte
 
-no-byte-forbidden : (s : ByteWriter) (bs : List ℕ) → accepts escapes s bs ≡ true
+no-byte-forbidden : (s : ByteWriter) (bs : List ℕ) → accepts writeStep s bs ≡ true
 no-byte-forbidden s [] = refl
-no-byte-forbidden s (b ∷ bs) = go (escapes s b) refl (λ o. no-byte-forbidden (o .after) bs)
+no-byte-forbidden s (b ∷ bs) = go (writeStep s b) refl (λ o. no-byte-forbidden (o .after) bs)
   where
-    go : (r : Option (Out ByteWriter)) → escapes s b ≡ r → ((o : Out ByteWriter) → accepts escapes (o .after) bs ≡ true)
-        → acceptsBy r (λ o. accepts escapes (o .after) bs) ≡ true
+    go : (r : Option (Out ByteWriter)) → writeStep s b ≡ r → ((o : Out ByteWriter) → accepts writeStep (o .after) bs ≡ true)
+        → acceptsBy r (λ o. accepts writeStep (o .after) bs) ≡ true
     go none e ih = absurd (never-forbidden s b e)
     go (some o) e ih = ih o
 
@@ -140,12 +140,12 @@ no-byte-forbidden s (b ∷ bs) = go (escapes s b) refl (λ o. no-byte-forbidden 
 pub read-way : (skip : ℕ) (stream : List ℕ) → Legal (drop skip stream) → ReadWay skip stream
 read-way skip stream l =
     way (read-follows skip) readEntry stream (0 ∷ []) []
-    (λ h. entry-done (1 ∷ 1 ∷ 0 ∷ []) (badState (readerAt skip h)) (omega arith, (omega arith, (zero-le, tt))) (read-good skip h))
-    (λ h. next-few (readerAt skip h)) (legal-accepts skip stream (legal-none (drop skip stream) l))
+    (λ h. entry-done (1 ∷ 1 ∷ 0 ∷ []) (badReader (readerAfter skip h)) (omega arith, (omega arith, (zero-le, tt))) (read-good skip h))
+    (λ h. next-few (readerAfter skip h)) (legal-accepts skip stream (legal-none (drop skip stream) l))
 
 -- EVERY LIST IS WRITTEN IN ROOM 2
 pub write-way : (stream : List ℕ) → WriteWay stream
 write-way stream =
     way write-follows writeEntry stream (0 ∷ 0 ∷ []) []
     (λ h. entry-done (1 ∷ 2 ∷ 0 ∷ []) (ltb 2 (writes h .state .«zero_count»)) (omega arith, (omega arith, (zero-le, tt))) (write-good h))
-    (λ h. out-few (writes h .state)) (no-byte-forbidden newWriter stream)
+    (λ h. out-few (writes h .state)) (no-byte-forbidden newByteWriter stream)

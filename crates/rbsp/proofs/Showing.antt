@@ -10,7 +10,7 @@ use lib.ListN.{length, take, drop}
 use lib.Dec.{ltb, eqb}
 use borrow.Author.Tests.{eqb-true, eqb-false}
 use Rattle.desk.specs.Numbers.{most, anyOver}
-use Rattle.desk.specs.Room.{written}
+use Rattle.desk.specs.Room.{withFront}
 use Rattle.desk.specs.Search.{is3, first}
 use Rattle.desk.proofs.Choice.{cond-ind}
 use Rattle.desk.proofs.Room.{front}
@@ -54,7 +54,7 @@ pub shows-unescaped : (nal room room′ : List ℕ) (r : Decoded) → Decodes na
     → shownOf nal room′ r ≡ unescape (drop 1 nal)
 shows-unescaped nal room room′ r d = go (case-of nal (length room)) r (d .number-is) (d .value-is) (d .room-is)
   where
-    go : {a : Decoding} → Case nal a → (r : Decoded) → numberOf r ≡ a .number → valueOf r ≡ a .value → room′ ≡ written room (a .bytes)
+    go : {a : Decoding} → Case nal a → (r : Decoded) → numberOf r ≡ a .number → valueOf r ≡ a .value → room′ ≡ withFront room (a .bytes)
         → numberOf r ≡ 0 → shownOf nal room′ r ≡ unescape (drop 1 nal)
     go (Case.refused x h) r n v m z = absurd (h (sym n ∙ z))
     go (Case.own u) Own n v m z = sym u
@@ -88,14 +88,14 @@ pub decode-way : (nal room : List ℕ) → DecodeWay nal room
 decode-way nal room = go (case-of nal (length room)) refl
   where
     go : {a : Decoding} → Case nal a → decodeOf nal (length room) ≡ a → DecodeWay nal room
-    go {a} c e = record { room′ = written room (a .bytes); answer = of c; decodes = met c e }
+    go {a} c e = record { room′ = withFront room (a .bytes); answer = of c; decodes = met c e }
       where
         of : {a : Decoding} → Case nal a → Decoded
         of (Case.own u) = Own
         of Case.filled = Filled (length (unescape (drop 1 nal)))
         of (Case.refused r h) = r
 
-        met : {a : Decoding} (c : Case nal a) → decodeOf nal (length room) ≡ a → Decodes nal room (written room (a .bytes)) (of c)
+        met : {a : Decoding} (c : Case nal a) → decodeOf nal (length room) ≡ a → Decodes nal room (withFront room (a .bytes)) (of c)
         met (Case.own u) e = record { number-is = rw e; value-is = rw e; room-is = rw e }
         met Case.filled e = record { number-is = rw e; value-is = rw e; room-is = rw e }
         met (Case.refused r h) e = record { number-is = rw e; value-is = rw e; room-is = rw e }

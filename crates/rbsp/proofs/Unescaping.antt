@@ -9,13 +9,13 @@ use mathlib.Core.Option.{Option, none, some, Option·some-injective}
 use lib.ListN.{length, take, drop}
 use lib.Seq.{drop-nil}
 use Rattle.desk.specs.Push.{Out, seen, seenAfter, Follows}
-use Rattle.desk.specs.Search.{is0, is3, stands, next as further, first, trail}
+use Rattle.desk.specs.Search.{is0, is3, stands, further, first, trail}
 use Rattle.desk.specs.Zeros.{two, zerosAfter}
 use Rattle.desk.proofs.Choice.{ap-cond, and-right}
 use Rattle.desk.proofs.Lists.{trail-past}
 use Rattle.desk.proofs.Search.{trail-more, stays}
 use Rattle.rbsp.specs.Rule.{Unescapes, unescape, unescapeAt, unescapeBy, endsThree}
-use Rattle.rbsp.specs.Step.{takes, skipping, next, readerAt, reads}
+use Rattle.rbsp.specs.Step.{takes, skipping, readStep, readerAfter, reads}
 use Rattle.rbsp.specs.declared.reader.ParseState.{ParseState}
 use Rattle.rbsp.specs.declared.reader.ParseState.the-variants.{Start, PostThree}
 
@@ -140,7 +140,7 @@ stepsTo z b = takes (cond (two z && is3 b) PostThree (Start (zerosAfter z b))) (
 none≢some : {o : Out ParseState} → _≡_ {A = Option (Out ParseState)} none (some o) → ⊥
 none≢some {o} e = let z : _≡_ {A = ℕ} 0 1 = cc in omega arith
 
-step-is : (e : Bool) (z b : ℕ) (o : Out ParseState) → (e ≡ true → z ≡ 0) → next (cond e PostThree (Start z)) b ≡ some o → stepsTo z b ≡ o
+step-is : (e : Bool) (z b : ℕ) (o : Out ParseState) → (e ≡ true → z ≡ 0) → readStep (cond e PostThree (Start z)) b ≡ some o → stepsTo z b ≡ o
 step-is true (suc z) b o h q = let n : suc z ≡ 0 = h refl in let x : ⊥ = omega arith in absurd x
 step-is true zero zero o h q = Option·some-injective _ o q
 step-is true zero (suc zero) o h q = Option·some-injective _ o q
@@ -155,7 +155,7 @@ step-is false (suc (suc z)) (suc (suc zero)) o h q = absurd (none≢some q)
 step-is false (suc (suc z)) (suc (suc (suc zero))) o h q = Option·some-injective _ o q
 step-is false (suc (suc z)) (suc (suc (suc (suc b)))) o h q = Option·some-injective _ o q
 
-pub reader-new : (k : ℕ) → readerAt k [] ≡ skipping k
+pub reader-new : (k : ℕ) → readerAfter k [] ≡ skipping k
 reader-new zero = refl
 reader-new (suc k) = refl
 
@@ -163,9 +163,9 @@ pub unescape-nil : unescape [] ≡ []
 unfolding unescape
 unescape-nil = refl
 
-reads-more : (k : ℕ) (h : List ℕ) (b : ℕ) (o : Out ParseState) → next (readerAt k h) b ≡ some o → reads k (h ++ b ∷ []) ≡ seenAfter (reads k h) o
+reads-more : (k : ℕ) (h : List ℕ) (b : ℕ) (o : Out ParseState) → readStep (readerAfter k h) b ≡ some o → reads k (h ++ b ∷ []) ≡ seenAfter (reads k h) o
 reads-more zero h b o q =
-    let state : readerAt 0 (h ++ b ∷ []) ≡ cond (two (trail h) && is3 b) PostThree (Start (zerosAfter (trail h) b)) =
+    let state : readerAfter 0 (h ++ b ∷ []) ≡ cond (two (trail h) && is3 b) PostThree (Start (zerosAfter (trail h) b)) =
     ap₂ (λ (c : Bool) (n : ℕ). cond c PostThree (Start n)) (ends-three-more h b) (trail-more h b) in
     (λ i. seen (state i) (unescape-more h b i) []) ∙ ap (seenAfter (reads 0 h)) (step-is (endsThree h) (trail h) b o (ends-three-trail h) q)
 reads-more (suc k) [] b o q =
@@ -174,7 +174,7 @@ reads-more (suc k) [] b o q =
 reads-more (suc k) (x ∷ h) b o q = reads-more k h b o q
 
 -- THE READER'S STEP GIVES THE RULE, with the first k bytes dropped
-pub read-follows : (k : ℕ) → Follows next (skipping k) (reads k)
+pub read-follows : (k : ℕ) → Follows readStep (skipping k) (reads k)
 read-follows k =
     record {
       new = λ i. seen (reader-new k i) ((ap unescape (drop-nil k) ∙ unescape-nil) i) [];

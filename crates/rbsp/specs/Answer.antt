@@ -8,10 +8,10 @@ use lib.ListN.{length, take, drop}
 use lib.Dec.{ltb}
 use Rattle.desk.specs.Numbers.{most, done, tooLong, forbiddenByte, emptyNal, noRoom, anyOver}
 use Rattle.desk.specs.Push.{Answer, pushBy, Gives}
-use Rattle.desk.specs.Room.{written}
+use Rattle.desk.specs.Room.{withFront}
 use Rattle.desk.specs.Search.{is3, first}
 use Rattle.rbsp.specs.Rule.{unescape, firstBreak}
-use Rattle.rbsp.specs.Step.{next, readEntry, escapes, writeEntry, zeros}
+use Rattle.rbsp.specs.Step.{readStep, readEntry, writeStep, writeEntry, zeros}
 use Rattle.rbsp.specs.declared.reader.ParseState.{ParseState}
 use Rattle.rbsp.specs.declared.reader.Pushed.{Pushed}
 use Rattle.rbsp.specs.declared.writer.ByteWriter.{ByteWriter}
@@ -32,13 +32,13 @@ WriteGave a out out′ r = Gives a out [] out′ [] (r .number) (r .taken) (r .w
 
 -- THE CONTRACTS
 abbrev pub ReadPush : ParseState → List ℕ → List ℕ → List ℕ → Pushed → Type 0
-ReadPush s chunk out out′ r = ReadGave (pushBy next readEntry s chunk (length out) 0) out out′ r
+ReadPush s chunk out out′ r = ReadGave (pushBy readStep readEntry s chunk (length out) 0) out out′ r
 
 abbrev pub WritePush : ByteWriter → List ℕ → List ℕ → List ℕ → Written → Type 0
-WritePush s chunk out out′ r = WriteGave (pushBy escapes writeEntry s chunk (length out) 0) out out′ r
+WritePush s chunk out out′ r = WriteGave (pushBy writeStep writeEntry s chunk (length out) 0) out out′ r
 
-abbrev pub newWriter : ByteWriter
-newWriter = zeros 0
+abbrev pub newByteWriter : ByteWriter
+newByteWriter = zeros 0
 
 -- ---- a whole NAL
 
@@ -95,7 +95,7 @@ valueOf NoRoom = none
 pub record Decodes (nal room room′ : List ℕ) (r : Decoded) : Type 0 where
   pub number-is : numberOf r ≡ decodeOf nal (length room) .number
   pub value-is : valueOf r ≡ decodeOf nal (length room) .value
-  pub room-is : room′ ≡ written room (decodeOf nal (length room) .bytes)
+  pub room-is : room′ ≡ withFront room (decodeOf nal (length room) .bytes)
 
 -- what the caller is shown: the NAL's own tail, or the filled front of the room
 abbrev pub shownOf : List ℕ → List ℕ → Decoded → List ℕ

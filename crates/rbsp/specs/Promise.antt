@@ -9,8 +9,8 @@ use Rattle.desk.specs.Numbers.{most}
 use Rattle.desk.specs.Push.{Pushes, cameTo, Way}
 use Rattle.desk.specs.Search.{trail}
 use Rattle.rbsp.specs.Rule.{escape, unescape, Legal, firstBreak}
-use Rattle.rbsp.specs.Step.{next, skipping, readEntry, readerAt, escapes, writeEntry, zeros}
-use Rattle.rbsp.specs.Answer.{ReadGave, ReadPush, WriteGave, WritePush, newWriter, Decodes}
+use Rattle.rbsp.specs.Step.{readStep, skipping, readEntry, readerAfter, writeStep, writeEntry, zeros}
+use Rattle.rbsp.specs.Answer.{ReadGave, ReadPush, WriteGave, WritePush, newByteWriter, Decodes}
 use Rattle.rbsp.specs.declared.nal.Decoded.{Decoded}
 use Rattle.rbsp.specs.declared.reader.ParseState.{ParseState}
 use Rattle.rbsp.specs.declared.reader.Pushed.{Pushed}
@@ -18,12 +18,12 @@ use Rattle.rbsp.specs.declared.writer.ByteWriter.{ByteWriter}
 use Rattle.rbsp.specs.declared.writer.Written.{Written}
 
 -- any pushes of a stream, from a new reader that drops the first `skip` bytes: n bytes taken, the state, the bytes delivered
-abbrev pub Reads : ℕ → List ℕ → ℕ → ParseState → List ℕ → List ℕ → Type 0
-Reads skip stream n s given ends = Pushes next readEntry (skipping skip) stream n s given ends
+abbrev pub ReadTrace : ℕ → List ℕ → ℕ → ParseState → List ℕ → List ℕ → Type 0
+ReadTrace skip stream n s given ends = Pushes readStep readEntry (skipping skip) stream n s given ends
 
 -- any pushes of an RBSP, from a new writer: n bytes taken, the state, the bytes written
-abbrev pub Writes : List ℕ → ℕ → ByteWriter → List ℕ → List ℕ → Type 0
-Writes stream n s given ends = Pushes escapes writeEntry newWriter stream n s given ends
+abbrev pub WriteTrace : List ℕ → ℕ → ByteWriter → List ℕ → List ℕ → Type 0
+WriteTrace stream n s given ends = Pushes writeStep writeEntry newByteWriter stream n s given ends
 
 -- ---- what pushes come to
 
@@ -39,7 +39,7 @@ ReadsAtOnce skip stream n s given =
 pub record Reading (skip : ℕ) (stream : List ℕ) (n : ℕ) (s : ParseState) (given : List ℕ) : Type 0 where
   pub within : n ≤ length stream
   pub bytes : given ≡ unescape (drop skip (take n stream))
-  pub state : s ≡ readerAt skip (take n stream)
+  pub state : s ≡ readerAfter skip (take n stream)
   pub legal : Legal (drop skip (take n stream))
   pub at-once : ReadsAtOnce skip stream n s given
 
@@ -53,7 +53,7 @@ pub record Seventh (skip : ℕ) (stream : List ℕ) (n taken : ℕ) : Type 0 whe
 -- ONE PUSH from a new writer, as on reading
 abbrev pub WritesAtOnce : List ℕ → ℕ → ByteWriter → List ℕ → Type 0
 WritesAtOnce stream n s given =
-    (out out′ : List ℕ) (r : Written) → WritePush newWriter (take n stream) out out′ r
+    (out out′ : List ℕ) (r : Written) → WritePush newByteWriter (take n stream) out out′ r
     → n ≤ most → length out ≤ most → length given ≤ length out → WriteGave (cameTo n s given []) out out′ r
 
 -- what was written is the escape of what was taken; it is legal, so it never holds 00 00 followed by 00, 01 or 02; it unescapes to what was taken;
@@ -70,10 +70,10 @@ pub record Writing (stream : List ℕ) (n : ℕ) (s : ByteWriter) (given : List 
 
 -- pushes that take all of a stream, each lent one byte; of an RBSP, each lent two
 abbrev pub ReadWay : ℕ → List ℕ → Type 0
-ReadWay skip stream = Way next readEntry (skipping skip) stream (length stream) 1 0
+ReadWay skip stream = Way readStep readEntry (skipping skip) stream (length stream) 1 0
 
 abbrev pub WriteWay : List ℕ → Type 0
-WriteWay stream = Way escapes writeEntry newWriter stream (length stream) 2 0
+WriteWay stream = Way writeStep writeEntry newByteWriter stream (length stream) 2 0
 
 -- ---- a whole NAL
 

@@ -6,7 +6,7 @@ use mathlib.Core.Bool.{Bool, false, cond, not, _&&_}
 use mathlib.Core.List.{List, [], _∷_, _++_}
 use mathlib.Core.Option.{Option, none, some}
 use lib.ListN.{length, take, drop}
-use Rattle.desk.specs.Search.{is3, upTo2, upTo3, stands, next, first}
+use Rattle.desk.specs.Search.{is3, upTo2, upTo3, stands, further, first}
 
 -- ---- WRITING (Rec 7.4.1), two sentences: `Escapes s t` says that the RBSP s is written as t. Where 00 00 and a byte 00 to 03 stand nowhere, it is
 -- written as it is; where they first stand at place i, 03 goes between, and the search goes on from the byte behind the 03, with nothing remembered.
@@ -63,7 +63,7 @@ pub record Legal (s : List ℕ) : Type 0 where
 -- the place of the last byte of the first window of s that breaks a prohibition, if there is one
 abbrev pub firstBreak : List ℕ → Option ℕ
 firstBreak [] = none
-firstBreak (x ∷ s) = cond (stands upTo2 (x ∷ s)) (some 2) (cond (badFour (x ∷ s)) (some 3) (next (firstBreak s)))
+firstBreak (x ∷ s) = cond (stands upTo2 (x ∷ s)) (some 2) (cond (badFour (x ∷ s)) (some 3) (further (firstBreak s)))
 
 -- the last byte of s is a removed 03
 abbrev pub endsThree : List ℕ → Bool

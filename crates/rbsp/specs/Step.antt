@@ -35,35 +35,35 @@ skipping zero = Start 0
 skipping (suc k) = Skip (suc k)
 
 -- what a byte does in each state; behind a removed 03 only 00 to 03 may follow, and a 00 is the first zero of a new pair
-abbrev pub next : Next ParseState
-next (Start z) b = scan z b
-next (Skip zero) b = scan 0 b
-next (Skip (suc k)) b = some (takes (skipping k) [])
-next PostThree b = cond (upTo3 b) (some (takes (Start (zerosAfter 0 b)) (b ∷ []))) none
+abbrev pub readStep : Next ParseState
+readStep (Start z) b = scan z b
+readStep (Skip zero) b = scan 0 b
+readStep (Skip (suc k)) b = some (takes (skipping k) [])
+readStep PostThree b = cond (upTo3 b) (some (takes (Start (zerosAfter 0 b)) (b ∷ []))) none
 
 -- what the code's step says: the state behind the byte, and the byte itself or nothing
-abbrev pub stepped : Stepped → ℕ → Option (Out ParseState)
-stepped (Take s n) b = some (takes s (replicate n b))
-stepped Forbidden b = none
+abbrev pub stepOut : Stepped → ℕ → Option (Out ParseState)
+stepOut (Take s n) b = some (takes s (replicate n b))
+stepOut Forbidden b = none
 
 -- a stored run of zeros over 2
-abbrev pub badState : ParseState → Bool
-badState (Start z) = ltb 2 z
-badState (Skip k) = false
-badState PostThree = false
+abbrev pub badReader : ParseState → Bool
+badReader (Start z) = ltb 2 z
+badReader (Skip k) = false
+badReader PostThree = false
 
 abbrev pub readEntry : ParseState → ℕ → ℕ → ℕ → ℕ
-readEntry s chunk w m = entryOf (chunk ∷ w ∷ m ∷ []) (badState s)
+readEntry s chunk w m = entryOf (chunk ∷ w ∷ m ∷ []) (badReader s)
 
 -- the state after the bytes h, of which the first k are dropped: it is fixed by the bytes
-abbrev pub readerAt : ℕ → List ℕ → ParseState
-readerAt zero h = cond (endsThree h) PostThree (Start (trail h))
-readerAt (suc k) [] = Skip (suc k)
-readerAt (suc k) (b ∷ h) = readerAt k h
+abbrev pub readerAfter : ℕ → List ℕ → ParseState
+readerAfter zero h = cond (endsThree h) PostThree (Start (trail h))
+readerAfter (suc k) [] = Skip (suc k)
+readerAfter (suc k) (b ∷ h) = readerAfter k h
 
 -- what is to be seen after the bytes h, of which the first k are dropped
 abbrev pub reads : ℕ → List ℕ → Seen ParseState
-reads k h = seen (readerAt k h) (unescape (drop k h)) []
+reads k h = seen (readerAfter k h) (unescape (drop k h)) []
 
 -- ---- writing
 
@@ -81,17 +81,17 @@ behindThree b = record { after = zeros (zerosAfter 0 b); bytes = 3 ∷ b ∷ [];
 abbrev pub goesAlone : ℕ → ℕ → Out ByteWriter
 goesAlone z b = record { after = zeros (zerosAfter z b); bytes = b ∷ []; mark = false }
 
-abbrev pub escapes : Next ByteWriter
-escapes s b = cond (stuffs (s .«zero_count») b) (some (behindThree b)) (some (goesAlone (s .«zero_count») b))
+abbrev pub writeStep : Next ByteWriter
+writeStep s b = cond (stuffs (s .«zero_count») b) (some (behindThree b)) (some (goesAlone (s .«zero_count») b))
 
 -- what the code's step says: the byte alone, or behind a 03
-abbrev pub released : ℕ → ℕ → List ℕ
-released zero b = []
-released (suc zero) b = b ∷ []
-released (suc (suc n)) b = 3 ∷ b ∷ []
+abbrev pub stuffedBytes : ℕ → ℕ → List ℕ
+stuffedBytes zero b = []
+stuffedBytes (suc zero) b = b ∷ []
+stuffedBytes (suc (suc n)) b = 3 ∷ b ∷ []
 
-pub record Does (z b : ℕ) (r : Stuffed) : Type 0 where
-  pub next-is : escapes (zeros z) b ≡ some (record { after = r .after; bytes = released (r .count) b; mark = false })
+pub record StuffsAs (z b : ℕ) (r : Stuffed) : Type 0 where
+  pub next-is : writeStep (zeros z) b ≡ some (record { after = r .after; bytes = stuffedBytes (r .count) b; mark = false })
   pub least : 1 ≤ r .count
   pub most-two : r .count ≤ 2
 

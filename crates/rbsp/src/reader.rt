@@ -2,8 +2,8 @@
 ghost use mathlib.Core.Path.{_≡_};
 ghost use Prim.Native.Nat.{_≤_};
 ghost use lib.ListN.{length, replicate};
-ghost use Rattle.desk.specs.Room.{written};
-ghost use Rattle.rbsp.specs.Step.{next, skipping, badState, stepped};
+ghost use Rattle.desk.specs.Room.{withFront};
+ghost use Rattle.rbsp.specs.Step.{readStep, skipping, badReader, stepOut};
 ghost use Rattle.rbsp.specs.Answer.{ReadPush};
 
 // The Rust's ParseState. Its `Three` falls away, since bytes are taken singly.
@@ -36,7 +36,7 @@ pub(crate) enum Stepped {
 
 // Rec 7.4.1: behind two zeros 03 is removed, and 00, 01 and 02 are forbidden.
 fn scan(zeros: u8, b: u8) -> Stepped
-    ensures { λ r. ⌜ stepped r b ≡ next (ParseState.Start zeros) b ⌝ }
+    ensures { λ r. ⌜ stepOut r b ≡ readStep (ParseState.Start zeros) b ⌝ }
 {
     if zeros < 2 {
         return Stepped::Take(ParseState::Start(desk::zeros_after(zeros, b)), 1);
@@ -50,7 +50,7 @@ fn scan(zeros: u8, b: u8) -> Stepped
 
 // Rec 7.4.1: behind a removed 03 only 00 to 03 may follow; a 00 is the first zero of a new pair.
 fn after_three(b: u8) -> Stepped
-    ensures { λ r. ⌜ stepped r b ≡ next ParseState.PostThree b ⌝ }
+    ensures { λ r. ⌜ stepOut r b ≡ readStep ParseState.PostThree b ⌝ }
 {
     if b > 3 {
         return Stepped::Forbidden;
@@ -69,7 +69,7 @@ fn skip_left(left: usize) -> ParseState
 }
 
 fn skip(left: usize, b: u8) -> Stepped
-    ensures { λ r. ⌜ stepped r b ≡ next (ParseState.Skip left) b ⌝ }
+    ensures { λ r. ⌜ stepOut r b ≡ readStep (ParseState.Skip left) b ⌝ }
 {
     if left == 0 {
         return scan(0, b);
@@ -78,7 +78,7 @@ fn skip(left: usize, b: u8) -> Stepped
 }
 
 pub(crate) fn step(state: ParseState, b: u8) -> Stepped
-    ensures { λ r. ⌜ stepped r b ≡ next state b ⌝ }
+    ensures { λ r. ⌜ stepOut r b ≡ readStep state b ⌝ }
 {
     match state {
         ParseState::Start(zeros) => scan(zeros, b),
@@ -89,7 +89,7 @@ pub(crate) fn step(state: ParseState, b: u8) -> Stepped
 
 // A stored run of zeros over 2.
 fn is_bad(state: ParseState) -> bool
-    ensures { λ r. ⌜ r ≡ badState state ⌝ }
+    ensures { λ r. ⌜ r ≡ badReader state ⌝ }
 {
     match state {
         ParseState::Start(zeros) => zeros > 2,
@@ -101,7 +101,7 @@ fn is_bad(state: ParseState) -> bool
 // Writes what a byte releases, itself or nothing, at the front of the room.
 fn put(room: &mut [u8], count: usize, b: u8)
     requires { ⌜ (count ≤ 1) × (count ≤ length (now room)) ⌝ }
-    ensures { λ _. ⌜ now (room .exit) ≡ written (now (room .entry)) (replicate count b) ⌝ }
+    ensures { λ _. ⌜ now (room .exit) ≡ withFront (now (room .entry)) (replicate count b) ⌝ }
 {
     if count == 1 {
         room[0] = b;

@@ -2,9 +2,9 @@
 ghost use mathlib.Core.Path.{_≡_};
 ghost use Prim.Native.Nat.{_≤_};
 ghost use lib.ListN.{length};
-ghost use Rattle.desk.specs.Room.{written};
-ghost use Rattle.rbsp.specs.Step.{released, Does};
-ghost use Rattle.rbsp.specs.Answer.{WritePush, newWriter};
+ghost use Rattle.desk.specs.Room.{withFront};
+ghost use Rattle.rbsp.specs.Step.{stuffedBytes, StuffsAs};
+ghost use Rattle.rbsp.specs.Answer.{WritePush, newByteWriter};
 
 // Zeros at the end of what was written: 0, 1 or 2.
 pub struct ByteWriter {
@@ -27,7 +27,7 @@ struct Stuffed {
 
 // Rec 7.4.1: behind two zeros a 03 goes before 00, 01, 02 and 03.
 fn stuff(zeros: u8, b: u8) -> Stuffed
-    ensures { λ r. ⌜ Does zeros b r ⌝ }
+    ensures { λ r. ⌜ StuffsAs zeros b r ⌝ }
 {
     if b > 3 {
         return Stuffed {
@@ -54,7 +54,7 @@ fn stuff(zeros: u8, b: u8) -> Stuffed
 // Writes what a byte releases at the front of the room.
 fn put(room: &mut [u8], count: usize, b: u8)
     requires { ⌜ (1 ≤ count) × (count ≤ 2) × (count ≤ length (now room)) ⌝ }
-    ensures { λ _. ⌜ now (room .exit) ≡ written (now (room .entry)) (released count b) ⌝ }
+    ensures { λ _. ⌜ now (room .exit) ≡ withFront (now (room .entry)) (stuffedBytes count b) ⌝ }
 {
     if count == 2 {
         room[0] = 3;
@@ -66,7 +66,7 @@ fn put(room: &mut [u8], count: usize, b: u8)
 
 impl ByteWriter {
     pub fn new() -> ByteWriter
-        ensures { λ r. ⌜ r ≡ newWriter ⌝ }
+        ensures { λ r. ⌜ r ≡ newByteWriter ⌝ }
     {
         ByteWriter { zero_count: 0 }
     }

@@ -23,7 +23,7 @@ use Rattle.annexb.proofs.Calling.{pushes-reset}
 use Rattle.annexb.proofs.Laws.{frame-way}
 use Rattle.annexb.proofs.Table.{table-exact}
 use Rattle.annexb.proofs.Ways.{reset-way, pushes-good}
-use Rattle.units.specs.Units.{Plain, Written, nal, nals, stream, Read, cutAt, Unescapes, Shows, AllBack, UnitForUnit, UnitsWay}
+use Rattle.units.specs.Units.{Plain, EscapedUnit, nal, nals, stream, Read, cutAt, GivesRbsp, Shows, AllBack, UnitForUnit, UnitsWay}
 
 -- ---- a written unit is a NAL unit that Rec B.1 allows
 
@@ -60,7 +60,7 @@ header-trail b (zero ∷ []) z e = let x : ⊥ = omega arith in absurd x
 header-trail b (suc x ∷ []) z e = refl
 header-trail b (x ∷ y ∷ s) z e = e
 
-allowed : (u : Written) → Allowed (nal u)
+allowed : (u : EscapedUnit) → Allowed (nal u)
 allowed u =
     let w = writing (u .pushes) in
     let p = u .plain in
@@ -74,27 +74,27 @@ allowed u =
 
 -- ---- the stream by the syntax table of B.1.1
 
-abbrev tabled : Written → ByteStreamNalUnit
+abbrev tabled : EscapedUnit → ByteStreamNalUnit
 tabled u = record { zeroByte = false; nal = nal u; trailingZeros = 0 }
 
-all-allowed : (us : List Written) → AllAllowed (map tabled us)
+all-allowed : (us : List EscapedUnit) → AllAllowed (map tabled us)
 all-allowed [] = tt
 all-allowed (u ∷ us) = (allowed u, all-allowed us)
 
-none-join : (us : List Written) → NoneJoin (map tabled us)
+none-join : (us : List EscapedUnit) → NoneJoin (map tabled us)
 none-join [] = tt
 none-join (u ∷ []) = refl
 none-join (u ∷ v ∷ us) = none-join (v ∷ us)
 
-stream-is : (us : List Written) → stream us ≡ byteStream 0 (map tabled us)
+stream-is : (us : List EscapedUnit) → stream us ≡ byteStream 0 (map tabled us)
 stream-is [] = refl
 stream-is (u ∷ us) = ap {B = List ℕ} (λ l. 0 ∷ 0 ∷ 1 ∷ l) (ap₂ _++_ (sym (append-nil (nal u))) (stream-is us))
 
-nals-are : (us : List Written) → nalUnits (map tabled us) ≡ nals us
+nals-are : (us : List EscapedUnit) → nalUnits (map tabled us) ≡ nals us
 nals-are [] = refl
 nals-are (u ∷ us) = ap {B = List (List ℕ)} (λ l. nal u ∷ l) (nals-are us)
 
-stream-units : (us : List Written) → unitsAtReset (stream us) ≡ nals us
+stream-units : (us : List EscapedUnit) → unitsAtReset (stream us) ≡ nals us
 stream-units us = ap unitsAtReset (stream-is us) ∙ table-exact 0 (map tabled us) (all-allowed us) (none-join us) ∙ nals-are us
 
 -- ---- what was handed out is what the rule gives
@@ -119,13 +119,13 @@ read-units s bytes ends r =
 
 -- ---- each unescapes to its RBSP
 
-unescaped : (u : Written) → unescape (u .escaped) ≡ u .plain .rbsp
+unescaped : (u : EscapedUnit) → unescape (u .escaped) ≡ u .plain .rbsp
 unescaped u = writing (u .pushes) .back ∙ take-length (u .plain .rbsp)
 
-pub unescapes : (u : Written) → Unescapes u
-unescapes u s given ends p = reading 1 p .bytes ∙ ap (λ (l : List ℕ). unescape (drop 1 l)) (take-length (nal u)) ∙ unescaped u
+pub gives-rbsp : (u : EscapedUnit) → GivesRbsp u
+gives-rbsp u s given ends p = reading 1 p .bytes ∙ ap (λ (l : List ℕ). unescape (drop 1 l)) (take-length (nal u)) ∙ unescaped u
 
-pub shows : (u : Written) → Shows u
+pub shows : (u : EscapedUnit) → Shows u
 shows u room room′ r d nf rf room-for =
     let e = unescaped u in
     let z = decode-done (nal u) room room′ r d (omega arith) nf rf (writing (u .pushes) .legal) (fits room-for) in
@@ -135,12 +135,12 @@ shows u room room′ r d nf rf room-for =
     fits (inl h) = inl (let n = ap length (unescaped u) in omega arith)
     fits (inr h) = inr (unescaped u ∙ h)
 
-all-back : (us : List Written) → AllBack us
+all-back : (us : List EscapedUnit) → AllBack us
 all-back [] = tt
-all-back (u ∷ us) = (unescapes u, shows u, all-back us)
+all-back (u ∷ us) = (gives-rbsp u, shows u, all-back us)
 
 -- UNIT FOR UNIT
-pub unit-for-unit : (us : List Written) (bytes ends : List ℕ) → Read (stream us) bytes ends → UnitForUnit us bytes ends
+pub unit-for-unit : (us : List EscapedUnit) (bytes ends : List ℕ) → Read (stream us) bytes ends → UnitForUnit us bytes ends
 unit-for-unit us bytes ends r =
     let e = read-units (stream us) bytes ends r in
     let u = stream-units us in
@@ -155,7 +155,7 @@ unit-for-unit us bytes ends r =
 
 -- ---- there is a way
 
-abbrev byteWise : Plain → Written
+abbrev byteWise : Plain → EscapedUnit
 byteWise p = let w = write-way (p .rbsp) in record { plain = p; escaped = w .given; state = w .state; marks = w .ends; pushes = w .pushes }
 
 pub units-way : (ps : List Plain) → UnitsWay ps
@@ -186,6 +186,6 @@ units-way ps =
           };
     }
   where
-    plain-again : (ps : List Plain) → map (λ (u : Written). u .plain) (map byteWise ps) ≡ ps
+    plain-again : (ps : List Plain) → map (λ (u : EscapedUnit). u .plain) (map byteWise ps) ≡ ps
     plain-again [] = refl
     plain-again (p ∷ ps) = ap {B = List Plain} (λ l. p ∷ l) (plain-again ps)

@@ -8,7 +8,7 @@ use Rattle.desk.specs.Numbers.{most}
 use Rattle.desk.specs.Push.{Pushes, shifted}
 use Rattle.desk.specs.Search.{trail}
 use Rattle.rbsp.specs.Answer.{numberOf, Decodes, shownOf}
-use Rattle.rbsp.specs.Promise.{Reads, Writes}
+use Rattle.rbsp.specs.Promise.{ReadTrace, WriteTrace}
 use Rattle.rbsp.specs.declared.nal.Decoded.{Decoded}
 use Rattle.rbsp.specs.declared.reader.ParseState.{ParseState}
 use Rattle.rbsp.specs.declared.writer.ByteWriter.{ByteWriter}
@@ -27,22 +27,22 @@ pub record Plain : Type 0 where
   pub no-last-zero : trail rbsp ≡ 0
 
 -- a unit that was written: its RBSP is escaped by any pushes that took all of it
-pub record Written : Type 0 where
+pub record EscapedUnit : Type 0 where
   pub plain : Plain
   pub escaped : List ℕ
   pub state : ByteWriter
   pub marks : List ℕ
-  pub pushes : Writes (plain .rbsp) (length (plain .rbsp)) state escaped marks
+  pub pushes : WriteTrace (plain .rbsp) (length (plain .rbsp)) state escaped marks
 
 -- header and escaped bytes
-abbrev pub nal : Written → List ℕ
+abbrev pub nal : EscapedUnit → List ℕ
 nal u = u .plain .header ∷ u .escaped
 
-abbrev pub nals : List Written → List (List ℕ)
+abbrev pub nals : List EscapedUnit → List (List ℕ)
 nals us = map nal us
 
 -- each behind 00 00 01
-abbrev pub stream : List Written → List ℕ
+abbrev pub stream : List EscapedUnit → List ℕ
 stream [] = []
 stream (u ∷ us) = 0 ∷ 0 ∷ 1 ∷ (nal u ++ stream us)
 
@@ -68,22 +68,22 @@ cutAt k [] bytes = []
 cutAt k (e ∷ es) bytes = take (e - k) bytes ∷ cutAt e es (drop (e - k) bytes)
 
 -- a unit, unescaped with the header skipped by any pushes that take all of it, gives its RBSP
-abbrev pub Unescapes : Written → Type 0
-Unescapes u = (s : ParseState) (given ends : List ℕ) → Reads 1 (nal u) (length (nal u)) s given ends → given ≡ u .plain .rbsp
+abbrev pub GivesRbsp : EscapedUnit → Type 0
+GivesRbsp u = (s : ParseState) (given ends : List ℕ) → ReadTrace 1 (nal u) (length (nal u)) s given ends → given ≡ u .plain .rbsp
 
 -- so does `decode_nal` with `shown`: its number is 0, within the limit and where the room holds the RBSP or nothing was removed
-abbrev pub Shows : Written → Type 0
+abbrev pub Shows : EscapedUnit → Type 0
 Shows u =
     (room room′ : List ℕ) (r : Decoded) → Decodes (nal u) room room′ r → length (nal u) ≤ most → length room ≤ most
     → (length (u .plain .rbsp) ≤ length room) ⊎ (u .plain .rbsp ≡ u .escaped)
     → (numberOf r ≡ 0) × (shownOf (nal u) room′ r ≡ u .plain .rbsp)
 
-abbrev pub AllBack : List Written → Type 0
+abbrev pub AllBack : List EscapedUnit → Type 0
 AllBack [] = Unit
-AllBack (u ∷ us) = Unescapes u × Shows u × AllBack us
+AllBack (u ∷ us) = GivesRbsp u × Shows u × AllBack us
 
 -- UNIT FOR UNIT: in order, none more and none less, no byte is left over, and each gives its RBSP
-pub record UnitForUnit (us : List Written) (bytes ends : List ℕ) : Type 0 where
+pub record UnitForUnit (us : List EscapedUnit) (bytes ends : List ℕ) : Type 0 where
   pub units : cutAt 0 ends bytes ≡ nals us
   pub count : length ends ≡ length us
   pub all-bytes : bytes ≡ joined (nals us)
@@ -91,8 +91,8 @@ pub record UnitForUnit (us : List Written) (bytes ends : List ℕ) : Type 0 wher
 
 -- THERE IS A WAY to write any units and to read them
 pub record UnitsWay (ps : List Plain) : Type 0 where
-  pub units : List Written
-  pub plain-are : map (λ (u : Written). u .plain) units ≡ ps
+  pub units : List EscapedUnit
+  pub plain-are : map (λ (u : EscapedUnit). u .plain) units ≡ ps
   pub bytes : List ℕ
   pub ends : List ℕ
   pub read : Read (stream units) bytes ends

@@ -1,18 +1,18 @@
 use Prim.Native.Nat.{_-_}
 use native.Mathlib.Omega.{arith}
 use borrow.Author.Needs.{needs}
-use Rattle.counting.proofs.Gaps.{wrapped, Passed, passed-none, passed-more, passed-all}
+use Rattle.counting.proofs.Gaps.{wrapped, MarksPassed, marks-passed-none, passed-more, passed-all}
 use Rattle.counting.proofs.distances.Statement.{statement}
 use Rattle.counting.proofs.distances.Tie as tie
 
 abbrev Inv-loop : tie.InvT-loop
-Inv-loop marks₀ count start last₀ i₀ marks last i = Passed marks₀ count start marks last i
+Inv-loop marks₀ count start last₀ i₀ marks last i = MarksPassed marks₀ count start marks last i
 
 abbrev μ-loop : tie.MeasureT-loop
 μ-loop marks₀ count start last₀ i₀ marks last i = count - i
 
 loop-holds : tie.Need-loop-holds Inv-loop μ-loop
-loop-holds c = passed-none (c .before .args .marks .now) (c .before .args .count) (c .before .args .start)
+loop-holds c = marks-passed-none (c .before .args .marks .now) (c .before .args .count) (c .before .args .start)
 
 mul-mark : tie.Need-mul-mark Inv-loop μ-loop
 mul-mark c = search needs

@@ -9,13 +9,13 @@ use borrow.Author.Needs.{needs}
 use borrow.Rule.Slice.PartMut.{mid-len}
 use Rattle.desk.proofs.Pushing.{going-none, stop-end}
 use Rattle.annexb.specs.Step.{stepping}
-use Rattle.annexb.proofs.Pushing.{Reading, push-refused, push-gives, zeros-passed, ends-few, takes, full, full-marks}
+use Rattle.annexb.proofs.Pushing.{ReadingSo, push-refused, push-gives, zeros-passed, ends-few, takes, full, full-marks}
 use Rattle.annexb.proofs.AnnexBReader.push.Statement.{statement}
 use Rattle.annexb.proofs.AnnexBReader.push.Tie as tie
 
 abbrev Inv-loop : tie.InvT-loop
 Inv-loop chunk room₀ marks₀ number state₀ taken₀ written₀ marked₀ room marks state taken written marked =
-    Reading chunk room₀ marks₀ state₀ room marks state taken written marked
+    ReadingSo chunk room₀ marks₀ state₀ room marks state taken written marked
 
 abbrev μ-loop : tie.MeasureT-loop
 μ-loop chunk room₀ marks₀ number state₀ taken₀ written₀ marked₀ room marks state taken written marked = length chunk - taken

@@ -7,7 +7,7 @@ use borrow.Author.Tests.{ltb-false}
 use denote.Ref.{now}
 use lib.Dec.{ltb}
 use lib.ListN.{length}
-use Rattle.bits.specs.Step.{stored, more, Wrote, GoodAfter}
+use Rattle.bits.specs.Step.{stored, storedMore, Wrote, GoodAfter}
 use Rattle.bits.specs.Answer.{ueWidth}
 use Rattle.bits.proofs.Storing.{stored-more, stored-good}
 use Rattle.bits.proofs.Back.{keeps, writes}
@@ -95,7 +95,7 @@ returns-2 c =
     let value : 0 * 2 ^ (m + 1) + (v + 1) ≡ v + 1 = omega arith in
     writes (simp (lacks (e .before) ∙ e .if1 .left)
     (c .before .before .put .ensures
-    ∙ ap (λ (x : Wrote). more x (m + 1) (v + 1)) (z .put-zeros .ensures)
+    ∙ ap (λ (x : Wrote). storedMore x (m + 1) (v + 1)) (z .put-zeros .ensures)
     ∙ stored-more o (a .self) m 0 (m + 1) (v + 1) (code-fits v m (l .high)) (omega arith)
     ∙ ap₂ (λ (k x : ℕ). stored o (a .self) k x) width value))
 

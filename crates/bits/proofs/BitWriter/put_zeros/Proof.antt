@@ -3,7 +3,7 @@ use Prim.Native.Nat.{ℕ, _+_, _-_, _*_, _≤_}
 use native.Mathlib.Omega.{arith}
 use denote.Ref.{now}
 use lib.ListN.{length}
-use Rattle.bits.specs.Step.{wrote, stored, more, Wrote, GoodAfter}
+use Rattle.bits.specs.Step.{wrote, stored, storedMore, Wrote, GoodAfter}
 use Rattle.bits.proofs.Storing.{stored-none, stored-more, stored-good}
 use Rattle.bits.proofs.BitWriter.put_zeros.Statement.{statement}
 use Rattle.bits.proofs.BitWriter.put_zeros.Tie as tie
@@ -51,7 +51,7 @@ loop-again c =
     let room = b .pre .0 .room in (
       omega arith,
       c .before .before .put .ensures
-          ∙ ap (λ (r : Wrote). more r 1 0) (l .inv .1)
+          ∙ ap (λ (r : Wrote). storedMore r 1 0) (l .inv .1)
           ∙ stored-more (now (a .out)) (a .self) (l .i) 0 1 0 (omega arith) (omega arith),
     )
 

@@ -6,13 +6,13 @@ use lib.ListN.{length, take}
 use lib.Seq.{length-take-le}
 use denote.Ref.{now}
 use Rattle.counting.specs.Tally.{wrap}
-use Rattle.lister.specs.System.{Sent, through-more}
+use Rattle.lister.specs.System.{WasSent, through-more}
 use borrow.Author.Needs.{needs}
 use Rattle.lister.proofs.system.hand_out.Statement.{statement}
 use Rattle.lister.proofs.system.hand_out.Tie as tie
 
 counted : (text : List ℕ) (filled sent sent′ : ℕ) → filled ≤ length text → sent′ ≡ (sent + filled) % wrap
-    → (w : List ℕ) → Sent w sent → Sent (w ++ take filled text) sent′
+    → (w : List ℕ) → WasSent w sent → WasSent (w ++ take filled text) sent′
 counted text filled sent sent′ h e w k = through-more 1 w (take filled text) sent sent′ k (omega (arith, e, length-take-le filled text h))
 
 wrapping-add-u64-requires : tie.Need-wrapping-add-u64-requires

@@ -2,7 +2,7 @@ use mathlib.Core.Path.{_≡_}
 use mathlib.Core.List.{[], _∷_}
 use native.Mathlib.Omega.{arith}
 use lib.ListN.{length-set}
-use Rattle.desk.proofs.Room.{stored}
+use Rattle.desk.proofs.Room.{front-stored}
 use borrow.Author.Needs.{needs}
 use Rattle.rbsp.proofs.writer.put.Statement.{statement}
 use Rattle.rbsp.proofs.writer.put.Tie as tie
@@ -17,7 +17,7 @@ same-length : tie.Need-same-length
 same-length c = search needs
 
 returns : tie.Need-returns
-returns c = rw (c .if1 .taken) (stored (3 ∷ c .before .args .b ∷ []) (c .before .args .room .now) (omega arith))
+returns c = rw (c .if1 .taken) (front-stored (3 ∷ c .before .args .b ∷ []) (c .before .args .room .now) (omega arith))
 
 slice-write-room-3 : tie.Need-slice-write-room-3
 slice-write-room-3 c = search needs
@@ -26,7 +26,7 @@ same-length-2 : tie.Need-same-length-2
 same-length-2 c = search needs
 
 returns-2 : tie.Need-returns-2
-returns-2 c = let q : c .before .args .count ≡ 1 = omega arith in rw q (stored (c .before .args .b ∷ []) (c .before .args .room .now) (omega arith))
+returns-2 c = let q : c .before .args .count ≡ 1 = omega arith in rw q (front-stored (c .before .args .b ∷ []) (c .before .args .room .now) (omega arith))
 
 pub put-spec : {M : Type 1} → statement M
 put-spec =

@@ -8,13 +8,13 @@ use lib.ListN.{length, getD, replicate, length-replicate}
 use borrow.Author.Needs.{needs}
 use borrow.Rule.Slice.PartMut.{mid-len}
 use Rattle.desk.proofs.Pushing.{Going, going-none, stop-forbidden, stop-end, gives}
-use Rattle.rbsp.specs.Step.{next}
+use Rattle.rbsp.specs.Step.{readStep}
 use Rattle.rbsp.proofs.Pushing.{refused, entry-is, more, full, took-is, forbids-is, next-one}
 use Rattle.rbsp.proofs.reader.ByteReader.push.Statement.{statement}
 use Rattle.rbsp.proofs.reader.ByteReader.push.Tie as tie
 
 abbrev Inv-loop : tie.InvT-loop
-Inv-loop chunk out₀ state₀ number taken₀ written₀ out state taken written = Going next chunk out₀ [] state₀ out [] state taken written 0
+Inv-loop chunk out₀ state₀ number taken₀ written₀ out state taken written = Going readStep chunk out₀ [] state₀ out [] state taken written 0
 
 abbrev μ-loop : tie.MeasureT-loop
 μ-loop chunk out₀ state₀ number taken₀ written₀ out state taken written = length chunk - taken
@@ -29,11 +29,11 @@ returns : tie.Need-returns Inv-loop μ-loop
 returns c =
     let a = c .before .before .before .before .before .args in
     let e = c .before .entry in
-    refused next (e .result) _ (a .self .state) (now (a .chunk)) (now (a .out))
+    refused readStep (e .result) _ (a .self .state) (now (a .chunk)) (now (a .out))
     (entry-is (e .result) _ _ _ (e .ensures) (c .before .before .is-bad .ensures)) (c .if1 .taken)
 
 loop-holds : tie.Need-loop-holds Inv-loop μ-loop
-loop-holds c = going-none next _ _ [] _
+loop-holds c = going-none readStep _ _ [] _
 
 shared-slice-read-b : tie.Need-shared-slice-read-b Inv-loop μ-loop
 shared-slice-read-b c = search needs

@@ -8,13 +8,13 @@ use lib.ListN.{length, getD}
 use borrow.Author.Needs.{needs}
 use borrow.Rule.Slice.PartMut.{mid-len}
 use Rattle.desk.proofs.Pushing.{Going, going-none, stop-end, gives}
-use Rattle.rbsp.specs.Step.{escapes, released}
+use Rattle.rbsp.specs.Step.{writeStep, stuffedBytes}
 use Rattle.rbsp.proofs.Pushing.{refused, more, full, released-length}
 use Rattle.rbsp.proofs.writer.ByteWriter.push.Statement.{statement}
 use Rattle.rbsp.proofs.writer.ByteWriter.push.Tie as tie
 
 abbrev Inv-loop : tie.InvT-loop
-Inv-loop chunk out₀ number state₀ taken₀ written₀ out state taken written = Going escapes chunk out₀ [] state₀ out [] state taken written 0
+Inv-loop chunk out₀ number state₀ taken₀ written₀ out state taken written = Going writeStep chunk out₀ [] state₀ out [] state taken written 0
 
 abbrev μ-loop : tie.MeasureT-loop
 μ-loop chunk out₀ number state₀ taken₀ written₀ out state taken written = length chunk - taken
@@ -25,10 +25,10 @@ entry-requires c κs = search needs
 returns : tie.Need-returns Inv-loop μ-loop
 returns c =
     let a = c .before .before .before .before .before .args in
-    refused escapes (c .before .entry .result) _ (a .self) (now (a .chunk)) (now (a .out)) (c .before .entry .ensures) (c .if1 .taken)
+    refused writeStep (c .before .entry .result) _ (a .self) (now (a .chunk)) (now (a .out)) (c .before .entry .ensures) (c .if1 .taken)
 
 loop-holds : tie.Need-loop-holds Inv-loop μ-loop
-loop-holds c = going-none escapes _ _ [] _
+loop-holds c = going-none writeStep _ _ [] _
 
 shared-slice-read-b : tie.Need-shared-slice-read-b Inv-loop μ-loop
 shared-slice-read-b c = search needs
@@ -48,7 +48,7 @@ returns-2 c =
     let l = c .before .before .before .before .before in
     let b = getD (now (l .before .before .before .before .before .before .args .chunk)) (l .loop .taken) 0 in
     gives (l .loop .inv) _ (sym (l .before .before .entry .ensures) ∙ l .before .if1 .left) 0
-    (full (l .loop .inv) (c .before .before .before .before .loop-test .taken) refl (st .result .after) (released (st .result .count) b)
+    (full (l .loop .inv) (c .before .before .before .before .loop-test .taken) refl (st .result .after) (stuffedBytes (st .result .count) b)
     (st .ensures .next-is) (st .result .count) (released-length (st .result .count) b (st .ensures .most-two)) (c .if2 .taken))
 
 sub-put : tie.Need-sub-put Inv-loop μ-loop
@@ -81,7 +81,7 @@ loop-again c =
     let l = c .before .before .before .before .before .before .before .before .before in
     let b = getD (now (l .before .before .before .before .before .before .args .chunk)) (l .loop .taken) 0 in
     more (l .loop .inv) (c .before .before .before .before .before .before .before .before .loop-test .taken) refl (st .result .after)
-    (released (st .result .count) b) (st .ensures .next-is) (st .result .count) (released-length (st .result .count) b (st .ensures .most-two)) _
+    (stuffedBytes (st .result .count) b) (st .ensures .next-is) (st .result .count) (released-length (st .result .count) b (st .ensures .most-two)) _
     (c .before .before .before .before .if2 .left) (c .before .before .put .ensures)
 
 same-length-2 : tie.Need-same-length-2 Inv-loop μ-loop
