@@ -1,4 +1,6 @@
 // Units out of a byte stream (Rec Annex B), from src/annexb.rs.
+#![tactic(auto)]
+
 ghost use Rattle.std.specs.Prelude.{◌≡◌, ◌≤◌, length, replicate};
 ghost use Rattle.desk.specs.Room.{with_front};
 ghost use Rattle.annexb.specs.Seen.{new};
@@ -8,14 +10,14 @@ ghost use Rattle.annexb.specs.Answer.{FramePush, FrameReset, gave, alone};
 // The reader between two calls: in a unit or not, and the zeros that the next byte decides on.
 // The Rust's ParseState: Start, StartOneZero and StartTwoZero are zeros 0, 1 and 2 outside a unit; InUnit, InUnitOneZero and InUnitTwoZero are
 // those in one, zeros being its backtrack_bytes.
-#[derive(Drop)]
+#[derive(Clone, Copy)]
 pub struct AnnexBReader {
     pub in_unit: bool,
     pub zeros: u8,
 }
 
 // What a call answers: its number, the bytes taken of the chunk, and the bytes and marks written.
-#[derive(Drop)]
+#[derive(Clone, Copy)]
 pub struct Pushed {
     pub number: u8,
     pub taken: usize,
@@ -25,7 +27,7 @@ pub struct Pushed {
 }
 
 // What one byte does: the state after it, how many bytes it releases (zeros, and itself last), and how many units it ends.
-#[derive(Drop)]
+#[derive(Clone, Copy)]
 struct Stepped {
     after: AnnexBReader,
     count: usize,

@@ -1,9 +1,11 @@
 // The lengths of units, by the marks that framing gives.
+#![tactic(auto)]
+
 ghost use Rattle.std.specs.Prelude.{◌≡◌, ◌≤◌, min, length};
 ghost use Rattle.counting.specs.Tally.{Distances, nothing, Tallied};
 
 // The units that ended so far, and the bytes of the open unit that were given so far. Both are exact below 2^64, and modulo 2^64 from there on.
-#[derive(Drop)]
+#[derive(Clone, Copy)]
 pub struct Tally {
     pub units: u64,
     pub bytes: u64,

@@ -1,12 +1,14 @@
 // The example of src/annexb.rs through the compiled code: units of 25 and 7 bytes, the second closed by a reset. Under every placing of up to three
 // cuts, and byte by byte; each with every room from 3 bytes and 1 mark up to all 32 bytes and both marks. It counts cases and differences.
+#![tactic(auto)]
+
 ghost use Rattle.std.specs.Prelude.{◌≡◌, length};
 
 use annexb::{AnnexBReader, Pushed};
 use libc::STDOUT_FILENO;
 
 // A reader under way: the bytes taken, given and ended units so far, and whether all of them were as wanted.
-#[derive(Drop)]
+#[derive(Clone, Copy)]
 struct Run {
     reader: AnnexBReader,
     taken: usize,
@@ -15,7 +17,7 @@ struct Run {
     right: bool,
 }
 
-#[derive(Drop)]
+#[derive(Clone, Copy)]
 struct Counts {
     cases: u64,
     differences: u64,
@@ -163,7 +165,7 @@ fn end(
 
 // One case: the first w bytes of the room and the first m marks are lent, the stream is cut at a, b and c (in fewer pieces where two of them
 // are equal, or one is at an end), and each push is lent at most `lend` bytes of its piece.
-#[derive(Drop)]
+#[derive(Clone, Copy)]
 struct Case {
     w: usize,
     m: usize,

@@ -1,5 +1,5 @@
 -- A push takes the longest front that it may: up to a forbidden byte, or to the first byte whose releases do not fit.
-use Prim.Native.Nat.{ℕ, zero, suc, ◌+◌, ◌-◌, ◌≤◌, ◌<◌, zero-le}
+use Prim.Native.Nat.{ℕ, zero, suc, ◌+◌, ◌≤◌, ◌<◌, zero-le}
 use native.Mathlib.Omega.{arith}
 use native.Mathlib.Nat.{add-zero, le_refl, le_of_eq, not-suc-le-zero}
 use lib.Dec.{leb}

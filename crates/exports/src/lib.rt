@@ -1,6 +1,8 @@
 // What Rust and C call: each function fronts one public call of the crates below, over slices and numbers.
 // A state comes in as numbers; the answer goes out as numbers, in an array that the caller lends. Nothing is asked of the caller, and a refusal
 // writes its answer and nothing else.
+#![tactic(auto)]
+
 pub mod escaping;
 pub mod framing;
 pub mod groups;

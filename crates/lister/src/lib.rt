@@ -4,6 +4,8 @@
 // What the contracts carry is where a listing stands (specs/Listed.antt): all that was read so far, all that was handed to writing, and
 // what waits between. `read` and `sent` count the one and the other, which system.rt alone writes; `status` says what the operating system's
 // calls came to.
+#![tactic(auto)]
+
 mod system;
 mod text;
 
@@ -16,14 +18,14 @@ use counting::Tally;
 use system::{END, MORE};
 
 // What is kept between two pieces of the input.
-#[derive(Drop)]
+#[derive(Clone, Copy)]
 struct Progress {
     reader: AnnexBReader,
     tally: Tally,
 }
 
 // The front of a chunk that is listed.
-#[derive(Drop)]
+#[derive(Clone, Copy)]
 struct Piece {
     taken: usize,
     progress: Progress,

@@ -1,4 +1,6 @@
 // Lists the units of the Annex B stream on standard input.
+#![tactic(auto)]
+
 fn main() {
     lister::list_standard_input();
 }

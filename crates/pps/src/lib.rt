@@ -1,4 +1,6 @@
 // Slice groups of a picture parameter set (Rec 7.3.2.2, 7.4.2.2), over the bit crate's promises alone.
+#![tactic(auto)]
+
 ghost use Rattle.bits.specs.Reading.{Reads};
 ghost use Rattle.pps.specs.Rule.{num_ref_idx};
 
@@ -12,27 +14,27 @@ mod rectangles;
 use bits::{BitReader, Bits};
 
 // The picture that a parameter set is read for: its width in macroblocks, and its size in map units.
-#[derive(Drop)]
+#[derive(Clone, Copy)]
 pub struct Geometry {
     pub pic_width_in_mbs: u32,
     pub pic_size_in_map_units: u32,
 }
 
-#[derive(Drop)]
+#[derive(Clone, Copy)]
 pub struct SliceRect {
     pub top_left: u32,
     pub bottom_right: u32,
 }
 
 // What a rectangle's read finds: the rectangle and the reader behind it; or a number of the table, and the reader as it came.
-#[derive(Drop)]
+#[derive(Clone, Copy)]
 pub enum Rect {
     Value(SliceRect, BitReader),
     Refused(u8, BitReader),
 }
 
 // Map types 3, 4 and 5.
-#[derive(Drop)]
+#[derive(Clone, Copy)]
 pub enum SliceGroupChangeType {
     BoxOut,
     RasterScan,
@@ -40,7 +42,7 @@ pub enum SliceGroupChangeType {
 }
 
 // The lists that Rust keeps in these cases stand beside the enum, in `SliceGroups`, and the ids in a lent buffer.
-#[derive(Drop)]
+#[derive(Clone, Copy)]
 pub enum SliceGroup {
     Interleaved,
     Dispersed,
@@ -56,7 +58,7 @@ pub enum SliceGroup {
 }
 
 // Entries that the map type does not use are 0.
-#[derive(Drop)]
+#[derive(Clone, Copy)]
 pub struct SliceGroups {
     pub group: SliceGroup,
     pub num_slice_groups_minus1: u32,
@@ -66,7 +68,7 @@ pub struct SliceGroups {
 
 // What a read of slice groups gives: 0, the reader behind the last field, the groups and the count of ids written; or a number of the table, the
 // reader as it came, groups that are all 0, and no ids.
-#[derive(Drop)]
+#[derive(Clone, Copy)]
 pub struct SliceGroupRead {
     pub number: u8,
     pub reader: BitReader,

@@ -5,7 +5,7 @@ ghost use Rattle.rbsp.specs.Answer.{Surveys, Fillable, Decodes, shown_of};
 use super::reader::{ByteReader, ParseState, Stepped, step};
 
 // What decode_nal answers: 0 with the part to be shown, or a refusal.
-#[derive(Drop)]
+#[derive(Clone, Copy)]
 pub enum Decoded {
     // The NAL's own tail: nothing was removed, and the room is untouched.
     Own,
@@ -22,7 +22,7 @@ pub enum Decoded {
 }
 
 // What a first pass over the NAL finds, before anything is written.
-#[derive(Drop)]
+#[derive(Clone, Copy)]
 enum Surveyed {
     // So many bytes are kept.
     Kept(usize),

@@ -5,7 +5,7 @@ ghost use Rattle.rbsp.specs.Step.{read_step, skipping, bad_reader, step_out};
 ghost use Rattle.rbsp.specs.Answer.{ReadPush};
 
 // The Rust's ParseState. Its `Three` falls away, since bytes are taken singly.
-#[derive(Drop)]
+#[derive(Clone, Copy)]
 pub enum ParseState {
     // Zeros at the end of what was taken: 0, 1 or 2.
     Start(u8),
@@ -15,13 +15,13 @@ pub enum ParseState {
     PostThree,
 }
 
-#[derive(Drop)]
+#[derive(Clone, Copy)]
 pub struct ByteReader {
     pub state: ParseState,
 }
 
 // What a push answers. Where the number is 7, taken is the index of the forbidden byte.
-#[derive(Drop)]
+#[derive(Clone, Copy)]
 pub struct Pushed {
     pub number: u8,
     pub taken: usize,
@@ -30,7 +30,7 @@ pub struct Pushed {
 }
 
 // What a byte does: the state behind it and whether it is delivered, as the count of bytes that it releases; or it is forbidden.
-#[derive(Drop)]
+#[derive(Clone, Copy)]
 pub(crate) enum Stepped {
     Take(ParseState, usize),
     Forbidden,

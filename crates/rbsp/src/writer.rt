@@ -5,13 +5,13 @@ ghost use Rattle.rbsp.specs.Step.{stuffed_bytes, StuffsAs};
 ghost use Rattle.rbsp.specs.Answer.{WritePush, new_byte_writer};
 
 // Zeros at the end of what was written: 0, 1 or 2.
-#[derive(Drop)]
+#[derive(Clone, Copy)]
 pub struct ByteWriter {
     pub zero_count: u8,
 }
 
 // What a push answers.
-#[derive(Drop)]
+#[derive(Clone, Copy)]
 pub struct Written {
     pub number: u8,
     pub taken: usize,
@@ -20,7 +20,7 @@ pub struct Written {
 }
 
 // What a byte does: the state behind it, and how many bytes it releases: itself, or 03 and itself.
-#[derive(Drop)]
+#[derive(Clone, Copy)]
 struct Stuffed {
     after: ByteWriter,
     count: usize,

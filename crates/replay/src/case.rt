@@ -4,7 +4,7 @@ ghost use Rattle.std.specs.Prelude.{◌≤◌};
 use super::bytes::word_at;
 
 // The call; what goes in: a, b, c and the input; what comes out: x, y, z and the output. The input and the output are told by their lengths.
-#[derive(Drop)]
+#[derive(Clone, Copy)]
 pub struct Case {
     pub call: u32,
     pub a: u32,
@@ -37,7 +37,7 @@ pub fn parse(head: &[u8]) -> Case {
     }
 }
 
-#[derive(Drop)]
+#[derive(Clone, Copy)]
 pub struct Counts {
     pub cases: u64,
     pub differences: u64,

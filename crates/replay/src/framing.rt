@@ -4,7 +4,7 @@ use super::case::Case;
 use annexb::{AnnexBReader, Pushed};
 
 // The bytes and units handed out so far, and whether all was as recorded.
-#[derive(Drop)]
+#[derive(Clone, Copy)]
 struct Handed {
     bytes: usize,
     units: u32,
@@ -75,7 +75,7 @@ fn push(
     }
 }
 
-#[derive(Drop)]
+#[derive(Clone, Copy)]
 struct Step {
     state: AnnexBReader,
     handed: Handed,

@@ -1,5 +1,7 @@
 // Holds the port to recorded answers of the original, h264-reader 0.9.0: counts the cases of each file of data/, and the differences.
 // The original is not at hand here. compare/record writes the files, and compare/src/record.rs says what each case is.
+#![tactic(auto)]
+
 mod bits_cases;
 mod bytes;
 mod case;

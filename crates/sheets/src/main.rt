@@ -1,4 +1,6 @@
 // Document 01's "Sheets pulled for checking" through the compiled code: a line per case with what was answered, held to the file stdout.
+#![tactic(auto)]
+
 mod bits_of;
 mod escaping;
 mod framing;
