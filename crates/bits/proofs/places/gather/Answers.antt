@@ -1,4 +1,4 @@
-use Rattle.std.proofs.Common.{◌-◌, ◌*◌, ◌^◌, ◌<◌, arith, sym, ap, ◌∙◌}
+use Rattle.std.proofs.Common.{◌-◌, ◌*◌, arith, sym, ap, ◌∙◌}
 use Rattle.bits.specs.Rule.{value_at}
 use Rattle.bits.proofs.Value.{value_lt, value_more, value_zero}
 use lib.Pow.{pow_mono}
