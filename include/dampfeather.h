@@ -1,4 +1,4 @@
-/* The functions of libexports.a (rt staticlib exports), for C on x86-64.
+/* The functions of libexports.a (rt lib in crates/exports), for C on x86-64.
  *
  * Nothing is asked of a caller but that a pointer and the length behind it are those of an array (any pointer where the length is 0), that
  * arrays do not overlap, and that an array whose type says a length has that length.

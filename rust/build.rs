@@ -17,7 +17,7 @@ fn main() {
     let archive = folder.join(ARCHIVE);
     if !archive.is_file() {
         fail(&format!(
-            "there is no {}: run `rt staticlib exports` in the repository, or set DAMPFEATHER_LIB to the folder that has it",
+            "there is no {}: run `rt lib` in the repository's crates/exports, or set DAMPFEATHER_LIB to the folder that has it",
             archive.display()
         ));
     }
@@ -33,17 +33,18 @@ fn fail(why: &str) -> ! {
 
 /// The folder of the repository's archive, which is built if need be and if `rt` is there.
 fn own(root: &Path) -> PathBuf {
-    let folder = root.join("target/staticlib");
+    let exports = root.join("crates/exports");
+    let folder = exports.join("out");
     let changed = changed(root);
     let built = std::fs::metadata(folder.join(ARCHIVE)).and_then(|m| m.modified()).ok();
     if built.is_some_and(|built| changed.is_none_or(|changed| changed <= built)) {
         return folder;
     }
-    match Command::new("rt").args(["staticlib", "exports"]).current_dir(root).output() {
+    match Command::new("rt").arg("lib").current_dir(exports).output() {
         Ok(run) if run.status.success() => {}
         Ok(run) => {
             let told = [run.stdout, run.stderr].concat();
-            fail(&format!("`rt staticlib exports` failed:\n{}", String::from_utf8_lossy(&told)))
+            fail(&format!("`rt lib` in crates/exports failed:\n{}", String::from_utf8_lossy(&told)))
         }
         Err(_) if built.is_some() => {
             println!("cargo:warning={ARCHIVE} is older than crates/, and `rt` is not on the PATH to build it anew");
@@ -71,7 +72,8 @@ fn changed(root: &Path) -> Option<SystemTime> {
             last = last.max(newest(&code));
         }
         for line in list.lines() {
-            if let Some((_, below)) = line.split_once(':').filter(|(above, _)| *above == name) {
+            // a word behind the name, as in `exports staticlib:`, says what kind of crate it is
+            if let Some((_, below)) = line.split_once(':').filter(|(above, _)| above.split_whitespace().next() == Some(name)) {
                 names.extend(below.split_whitespace().filter(|b| !names.contains(b)).collect::<Vec<_>>());
             }
         }
