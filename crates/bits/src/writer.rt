@@ -96,6 +96,7 @@ impl BitWriter {
     }
 
     // u(n): `width` bits of `value`.
+    #[tactic(auto, using(crate::proofs::Entry::good, crate::proofs::Value::one_shl), unfolding(crate::specs::Answer::write_bits))]
     pub fn write(self, out: &mut [u8], width: u32, value: u32) -> Put
         ensures { Writes self result out.new (write_bits out.old self width value) }
     {
@@ -112,6 +113,7 @@ impl BitWriter {
         self.put_if_room(out, width, value)
     }
 
+    #[tactic(auto, unfolding(crate::specs::Answer::write_bit))]
     pub fn write_bit(self, out: &mut [u8], bit: bool) -> Put
         ensures { Writes self result out.new (write_bit out.old self bit) }
     {
@@ -149,6 +151,7 @@ impl BitWriter {
     }
 
     // ue(v).
+    #[tactic(auto, using(crate::proofs::Entry::good), unfolding(crate::specs::Answer::write_ue))]
     pub fn write_ue(self, out: &mut [u8], value: u32) -> Put
         ensures { Writes self result out.new (write_ue out.old self value) }
     {
@@ -163,6 +166,7 @@ impl BitWriter {
     }
 
     // se(v).
+    #[tactic(auto, using(crate::proofs::Entry::good, crate::proofs::Signs::is_least, crate::proofs::Signs::not_least, crate::proofs::Signs::has_code), unfolding(crate::specs::Answer::write_se))]
     pub fn write_se(self, out: &mut [u8], value: i32) -> Put
         ensures { Writes self result out.new (write_se out.old self value) }
     {
@@ -177,6 +181,7 @@ impl BitWriter {
     }
 
     // A one, then zeros to the byte boundary (Rec 7.3.2.11).
+    #[tactic(auto, using(crate::proofs::Entry::good), unfolding(crate::specs::Answer::write_trailing))]
     pub fn write_rbsp_trailing_bits(self, out: &mut [u8]) -> Put
         ensures { Writes self result out.new (write_trailing out.old self) }
     {

@@ -1,5 +1,5 @@
 use Rattle.std.proofs.Common.{◌+◌, ◌*◌, length, sym, ap, ◌∙◌, subst, arith}
-use Rattle.bits.specs.Step.{wrote, stored_more, Wrote, GoodAfter}
+use Rattle.bits.specs.Step.{stored_more, Wrote, GoodAfter}
 use Rattle.bits.proofs.Storing.{stored_none, stored_more_lem, stored_good}
 use Rattle.bits.proofs.BitWriter.put_zeros.Goals as goal
 
@@ -12,7 +12,7 @@ put-st-requires c =
     let l = c.loop-i in
     let room = c.requires.0.room in
     let h = subst (GoodAfter (length a.out.now) (8 * a.self.written.0 + (a.self.count + l.i))) (sym l.invariant.1)
-        (stored_good a.out.now a.self l.i 0 c.requires.0.good.small (omega arith)) in
+    (stored_good a.out.now a.self l.i 0 c.requires.0.good.small (omega arith)) in
     let bits = h.2 in
     (record { good = rw h.0 h.1; room = rw h.0 (omega arith) }, omega arith, omega arith)
 
