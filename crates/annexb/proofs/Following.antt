@@ -36,7 +36,8 @@ ends_append k (u ∷ us) vs =
 out_seen : (us : List (List ℕ)) (r : List ℕ) (b : ℕ) (c : Bool)
     → seen_in (ended_before us (cond c (unended true []) (unended false (r ++ b ∷ []))))
     ≡ seen_after (seen_in (ended_before us (unended false r)))
-    (cond c (record { after = at true 0; bytes = []; mark = false }) (record { after = at false (zeros_after (trail r) b); bytes = []; mark = false }))
+    (cond c (record { after = at true 0; bytes = []; mark = false })
+    (record { after = at false (zeros_after (trail r) b); bytes = []; mark = false }))
 out_seen us r b true = λ i. seen (at true 0) (sym (append-nil (joined (us ++ []) ++ [])) i) (sym (append-nil (ends_from 0 (us ++ []))) i)
 out_seen us r b false =
     λ i. seen (at false (trail_more r b i)) (sym (append-nil (joined (us ++ []) ++ [])) i) (sym (append-nil (ends_from 0 (us ++ []))) i)

@@ -1,5 +1,5 @@
 -- THE LAWS OF FRAMING THAT A CALLER CITES: cuts, room, what follows any history, one outcome.
-use Prim.Native.Nat.{ℕ, ◌+◌, ◌≤◌, zero-le}
+use Prim.Native.Nat.{ℕ, ◌≤◌, zero-le}
 use native.Mathlib.Omega.{arith}
 use lib.Dec.{ltb}
 use mathlib.Core.Path.{◌≡◌, refl, ap, ap₂, sym, ◌∙◌, subst}

@@ -26,7 +26,8 @@ units_are k (u ∷ us) (v ∷ vs) j e =
     let here : k + length u ≡ k + length v = head-eq_of_cons-eq e in
     let long : length v ≡ length u = omega arith in
     let first : u ≡ v = sym (take_at u (joined us) (length u) refl) ∙ ap (take (length u)) j ∙ take_at v (joined vs) (length u) long in
-    let rest : joined us ≡ joined vs = sym (drop_at u (joined us) (length u) refl) ∙ ap (drop (length u)) j ∙ drop_at v (joined vs) (length u) long in
+    let rest : joined us ≡ joined vs =
+    sym (drop_at u (joined us) (length u) refl) ∙ ap (drop (length u)) j ∙ drop_at v (joined vs) (length u) long in
     ap₂ {C = List (List ℕ)} ◌∷◌ first (units_are (k + length u) us vs rest (tail-eq_of_cons-eq e ∙ ap (λ (n : ℕ). ends_from n vs) (sym here)))
 
 -- A BYTE STREAM BY THE TABLE, THROUGH ANY PUSHES OF ALL OF IT AND ONE RESET: its NAL units, joined and by their ends

@@ -1,5 +1,5 @@
 -- THERE IS A WAY: resets that are done, and calls of one reader that take any streams whole.
-use Prim.Native.Nat.{ℕ, ◌+◌, ◌≤◌, zero-le}
+use Prim.Native.Nat.{ℕ, ◌≤◌, zero-le}
 use native.Mathlib.Omega.{arith}
 use mathlib.Core.Path.{refl, ap, ap₂, sym, subst}
 use mathlib.Core.List.{List, [], ◌∷◌, ◌++◌}

@@ -1,5 +1,6 @@
 -- What is told over a whole trace: the rule's units, by their lengths, and their number.
-use Rattle.std.proofs.Common.{◌≡◌, ℕ, ◌+◌, ◌-◌, ◌%◌, false, cond, List, [], ◌∷◌, ◌++◌, map, length, take, sym, refl, ap, ◌∙◌, ap₂, add-zero, zero-add, arith, length-append}
+use Rattle.std.proofs.Common.{◌≡◌, ℕ, ◌+◌, ◌%◌, false, cond, List, [], ◌∷◌, ◌++◌, map, length, take}
+use Rattle.std.proofs.Common.{sym, refl, ap, ◌∙◌, ap₂, add-zero, zero-add, arith, length-append}
 use mathlib.Core.Path.{subst⁻¹}
 use mathlib.Core.List.{map-append, append_cancel_left, head-eq_of_cons-eq, tail-eq_of_cons-eq}
 use lib.ListN.{length-map}
@@ -9,7 +10,7 @@ use Rattle.desk.specs.Push.{shifted, Seen}
 use Rattle.desk.proofs.Room.{front}
 use Rattle.annexb.specs.declared.AnnexBReader.{AnnexBReader}
 use Rattle.annexb.specs.declared.Pushed.{Pushed}
-use Rattle.annexb.specs.Rule.{Frame, frame, frame_from, joined, ends_from, ends, units_at_reset}
+use Rattle.annexb.specs.Rule.{Frame, frame, frame_from, joined, ends_from, units_at_reset}
 use Rattle.annexb.specs.Answer.{reset_answer, Gave}
 use Rattle.annexb.specs.Calls.{Calls}
 use Rattle.annexb.proofs.Framing.{split}
@@ -63,7 +64,8 @@ module _ {us : List (List ℕ)} {o : ℕ} {t : Tally} {told : List ℕ} (c : Cou
       let tell = told_units vs e p s ms own (start_is e o p t.bytes ep c.bytes_told) in
       let many : length ms ≡ length vs = sym (lengths_long s ms) ∙ ap length tell.0 ∙ length-map vs (λ (u : List ℕ). length u % wrap) in
       let front_is : take marked marks'' ≡ lengths s ms =
-      ap₂ take (el ∙ sym (lengths_long s ms)) (d.lengths_are ∙ ap (λ (l : List ℕ). with_front marks (lengths s l)) em) ∙ front marks (lengths s ms) in
+      ap₂ take (el ∙ sym (lengths_long s ms)) (d.lengths_are ∙ ap (λ (l : List ℕ). with_front marks (lengths s l)) em)
+      ∙ front marks (lengths s ms) in
       let sum : length (us ++ vs) ≡ length us + length vs = length-append us vs in
       let all : length (joined (us ++ vs)) ≡ e + length (joined vs) = joined_long us vs in
       record {

@@ -1,5 +1,6 @@
 -- The loop that puts distances in place of marks.
-use Rattle.std.proofs.Common.{◌≡◌, ℕ, zero, suc, ◌+◌, ◌-◌, ◌%◌, ◌<◌, ◌≤◌, min, List, [], ◌∷◌, ◌++◌, length, get_or, take, drop, set, sym, refl, ap, ◌∙◌, ap₂, zero-le, add-one, arith, length-set, length-take, length-take-le, drop-cons, take-suc}
+use Rattle.std.proofs.Common.{◌≡◌, ℕ, zero, suc, ◌+◌, ◌%◌, ◌<◌, ◌≤◌, min, List, [], ◌∷◌, ◌++◌, length, get_or, take, drop, set}
+use Rattle.std.proofs.Common.{sym, refl, ap, ◌∙◌, ap₂, zero-le, add-one, arith, length-set, length-take, length-take-le, drop-cons, take-suc}
 use native.Mathlib.Nat.{zero-min, min-zero, suc-min-suc}
 use lib.Seq.{set_at, get_or_at, append_snoc}
 use Rattle.desk.specs.Room.{with_front}
