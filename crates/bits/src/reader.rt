@@ -30,6 +30,7 @@ impl BitReader {
     }
 
     // u(n), n from 0 to 32.
+    #[tactic(auto, using(crate::proofs::Entry::entered), unfolding(crate::specs::Answer::read_bits))]
     pub fn read(self, s: &[u8], width: u32) -> Bits
         ensures { Reads self result (read_bits s.now self.at.0 width) }
     {
@@ -49,6 +50,7 @@ impl BitReader {
         Bits::Value(bits_at(s, self.at, n), BitReader { at: BitPos(next) })
     }
 
+    #[tactic(auto, unfolding(crate::specs::Answer::read_bit))]
     pub fn read_bit(self, s: &[u8]) -> Bit
         ensures { ReadsBit self result (read_bit s.now self.at.0) }
     {
@@ -59,6 +61,7 @@ impl BitReader {
     }
 
     // ue(v). A one after 32 zeros or more is 5 even where the bits run out behind it; no one at all is 4.
+    #[tactic(auto, using(crate::proofs::Entry::entered), unfolding(crate::specs::Answer::read_ue))]
     pub fn read_ue(self, s: &[u8]) -> Bits
         ensures { Reads self result (read_ue s.now self.at.0) }
     {
@@ -85,6 +88,7 @@ impl BitReader {
     }
 
     // se(v).
+    #[tactic(auto, unfolding(crate::specs::Answer::read_se))]
     pub fn read_se(self, s: &[u8]) -> Signed
         ensures { ReadsSigned self result (read_se s.now self.at.0) }
     {
@@ -94,6 +98,7 @@ impl BitReader {
         }
     }
 
+    #[tactic(auto, using(crate::proofs::Entry::entered), unfolding(crate::specs::Answer::skipped))]
     pub fn skip(self, s: &[u8], bit_count: u32) -> Moved
         ensures { Moves self result (skipped s.now self.at.0 bit_count) }
     {
@@ -116,6 +121,7 @@ impl BitReader {
     }
 
     // Is the place before the trailing bits (Rec 7.2, more_rbsp_data)?
+    #[tactic(auto, using(crate::proofs::Entry::entered, crate::proofs::Ones::behind_yes, crate::proofs::Ones::behind_no), unfolding(crate::specs::Answer::has_more))]
     pub fn has_more_rbsp_data(self, s: &[u8]) -> More
         ensures { result ≡ more_back (has_more s.now self.at.0) }
     {
@@ -129,6 +135,7 @@ impl BitReader {
     }
 
     // 0 where the place is that of the stop bit.
+    #[tactic(auto, using(crate::proofs::Entry::entered, crate::proofs::Ones::finish_here, crate::proofs::Ones::finish_behind, crate::proofs::Ones::finish_missing), unfolding(crate::specs::Answer::finish_rbsp))]
     pub fn finish_rbsp(self, s: &[u8]) -> u8
         ensures { result ≡ finish_rbsp s.now self.at.0 }
     {
@@ -148,6 +155,7 @@ impl BitReader {
     }
 
     // The same, and 0 at the end of the data: an SEI payload that ends on a byte has no trailing bits.
+    #[tactic(auto, using(crate::proofs::Entry::entered, crate::proofs::Ones::finish_here, crate::proofs::Ones::finish_not_here), unfolding(crate::specs::Answer::finish_sei))]
     pub fn finish_sei_payload(self, s: &[u8]) -> u8
         ensures { result ≡ finish_sei s.now self.at.0 }
     {
