@@ -40,6 +40,7 @@ fn mark_room() -> [u64; 1024]
 // Lists the units that end in the front of a chunk that one push takes: their lines go out at once. Lent three bytes and a mark, a push takes
 // one byte at least.
 fn list_some(
+    rt: HostRuntime,
     p: Progress,
     chunk: &[u8],
     room: &mut [u8],
@@ -59,7 +60,7 @@ fn list_some(
     let marked = r.marked;
     let after = tally.tally(marks, marked, r.written);
     let filled = text::unit_lines(text, marks, marked, tally.units);
-    system::hand_out(text, filled, sent, status);
+    system::hand_out(rt, text, filled, sent, status);
     let reader = r.state;
     Piece {
         taken: r.taken,
@@ -72,6 +73,7 @@ fn list_some(
 
 // Lists the units that end in a chunk: all of it is taken, unless a write fails.
 fn list_chunk(
+    rt: HostRuntime,
     p: Progress,
     chunk: &[u8],
     room: &mut [u8],
@@ -88,7 +90,7 @@ fn list_chunk(
     let mut progress = p;
     let mut at: usize = 0;
     while at < chunk.len() {
-        let piece = list_some(progress, &chunk[at..], room, marks, text, sent, status);
+        let piece = list_some(rt, progress, &chunk[at..], room, marks, text, sent, status);
         progress = piece.progress;
         at += piece.taken;
         if *status != MORE {
@@ -106,6 +108,7 @@ fn list_chunk(
 
 // Reads once, and lists what came. A read may give any part of what was asked for.
 fn turn(
+    rt: HostRuntime,
     p: Progress,
     chunk: &mut [u8],
     room: &mut [u8],
@@ -120,18 +123,19 @@ fn turn(
     requires in_bounds { (1 ≤ length chunk.old) × Carries [] read.old sent.old p }
     ensures { Turned status.new read.new sent.new result }
 {
-    let got = system::take_in(chunk, read);
+    let got = system::take_in(rt, chunk, read);
     let n = io::count(got, chunk);
     if n == 0 {
         *status = system::over(got);
         return p;
     }
-    let piece = list_chunk(p, &chunk[..n], room, marks, text, sent, status);
+    let piece = list_chunk(rt, p, &chunk[..n], room, marks, text, sent, status);
     piece.progress
 }
 
 // The end of the input: a reset ends the open unit, and its line and the total are told.
 fn finish(
+    rt: HostRuntime,
     p: Progress,
     room: &mut [u8],
     marks: &mut [u64],
@@ -150,11 +154,12 @@ fn finish(
     let all = tally.tally(marks, marked, r.written);
     let lines = text::unit_lines(text, marks, marked, tally.units);
     let filled = text::total_line(text, lines, all.units);
-    system::hand_out(text, filled, sent, status);
+    system::hand_out(rt, text, filled, sent, status);
 }
 
 // Lists the whole input. Nothing says that an input ends, so turns are counted down: none reaches 2^64 of them.
 fn list_all(
+    rt: HostRuntime,
     chunk: &mut [u8],
     room: &mut [u8],
     marks: &mut [u64],
@@ -174,9 +179,9 @@ fn list_all(
     };
     let mut turns = u64::MAX;
     while turns > 0 {
-        progress = turn(progress, chunk, room, marks, text, read, sent, status);
+        progress = turn(rt, progress, chunk, room, marks, text, read, sent, status);
         if *status == END {
-            finish(progress, room, marks, text, sent, status);
+            finish(rt, progress, room, marks, text, sent, status);
             return;
         }
         if *status != MORE {
@@ -187,7 +192,7 @@ fn list_all(
 }
 
 // A program has no exit status here: what failed is told on standard error.
-pub fn list_standard_input() {
+pub fn list_standard_input(rt: HostRuntime) {
     let mut chunk = io::large_buffer();
     let mut room = io::large_buffer();
     let mut marks = mark_room();
@@ -196,6 +201,7 @@ pub fn list_standard_input() {
     let mut sent: u64 = 0;
     let mut status = MORE;
     list_all(
+        rt,
         &mut chunk,
         &mut room,
         &mut marks,
@@ -204,5 +210,5 @@ pub fn list_standard_input() {
         &mut sent,
         &mut status,
     );
-    system::complain(status, read, sent);
+    system::complain(rt, status, read, sent);
 }

@@ -4,7 +4,7 @@
 ghost use Rattle.std.specs.Prelude.{◌≡◌, ◌≤◌, length};
 ghost use Rattle.lister.specs.System.{over_by, TookIn, HandedOut};
 
-use libc::{STDERR_FILENO, STDIN_FILENO, STDOUT_FILENO};
+use std::io::{Eprint, Print, Read};
 
 pub(crate) const MORE: u8 = 0;
 
@@ -15,13 +15,21 @@ const READ_FAILED: u8 = 2;
 const WRITE_FAILED: u8 = 3;
 
 // Reads once from standard input, and answers what the read did: how many bytes came, at the front of the chunk, or less than 0 if it failed.
-pub(crate) fn take_in(chunk: &mut [u8], read: &mut u64) -> isize
+pub(crate) fn take_in(rt: HostRuntime, chunk: &mut [u8], read: &mut u64) -> isize
     ensures { TookIn chunk.new read.old result read.new }
 {
-    let got = libc::read(STDIN_FILENO, chunk);
+    let got = read_once(rt, chunk);
     let n = io::count(got, chunk);
     *read = std::num::wrapping_add_u64(*read, n as u64);
     got
+}
+
+fn read_once(rt: HostRuntime, chunk: &mut [u8]) -> isize {
+    let mut input = rt.stdin();
+    match input.read(chunk) {
+        Ok(n) => n as isize,
+        Err(_) => -1,
+    }
 }
 
 // Why a read gave nothing.
@@ -32,33 +40,27 @@ pub(crate) fn over(got: isize) -> u8
 }
 
 // Hands the first `filled` bytes of the text to standard output.
-pub(crate) fn hand_out(text: &[u8], filled: usize, sent: &mut u64, status: &mut u8)
+pub(crate) fn hand_out(rt: HostRuntime, text: &[u8], filled: usize, sent: &mut u64, status: &mut u8)
     requires { filled ≤ length text.now }
     ensures { HandedOut text.now filled sent.old status.old sent.new status.new }
 {
     *sent = std::num::wrapping_add_u64(*sent, filled as u64);
-    if !io::write_all(STDOUT_FILENO, &text[..filled]) {
+    if Print::write_all(&rt.stdout(), &text[..filled]).is_err() {
         *status = WRITE_FAILED;
     }
 }
 
-// Tells on standard error what failed, and where.
-pub(crate) fn complain(status: u8, read: u64, sent: u64) {
+// Tells on standard error what failed, and where. Where that fails too, there is nobody to tell.
+pub(crate) fn complain(rt: HostRuntime, status: u8, read: u64, sent: u64) {
     if status == WRITE_FAILED {
-        io::write_all(
-            STDERR_FILENO,
-            b"listing: standard output: a write failed within the first ",
+        let _ = eprintln!(rt;
+            "listing: standard output: a write failed within the first {sent} bytes"
         );
-        io::print_decimal(STDERR_FILENO, sent);
-        io::write_all(STDERR_FILENO, b" bytes\n");
         return;
     }
     if status != END {
-        io::write_all(
-            STDERR_FILENO,
-            b"listing: standard input: a read failed behind ",
+        let _ = eprintln!(rt;
+            "listing: standard input: a read failed behind {read} bytes; no total"
         );
-        io::print_decimal(STDERR_FILENO, read);
-        io::write_all(STDERR_FILENO, b" bytes; no total\n");
     }
 }

@@ -1,6 +1,6 @@
 // Lists the units of the Annex B stream on standard input.
 #![tactic(auto)]
 
-fn main() {
-    lister::list_standard_input();
+fn main(rt: HostRuntime) {
+    lister::list_standard_input(rt);
 }

@@ -2,6 +2,6 @@
 // digits, a start code and a unit across the end of a read, zeros between units, and two zeros at the end, which join the last unit.
 #![tactic(auto)]
 
-fn main() {
-    lister::list_standard_input();
+fn main(rt: HostRuntime) {
+    lister::list_standard_input(rt);
 }

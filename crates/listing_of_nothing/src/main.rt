@@ -1,6 +1,6 @@
 // The same program as `listing`, run on empty input.
 #![tactic(auto)]
 
-fn main() {
-    lister::list_standard_input();
+fn main(rt: HostRuntime) {
+    lister::list_standard_input(rt);
 }

@@ -2,7 +2,7 @@
 use mathlib.Core.Path.{◌≡◌, refl, ap, ◌∙◌, subst}
 use mathlib.Core.List.{List, ◌∷◌}
 use mathlib.Core.Bool.{Bool, true, false, cond}
-use Prim.Native.Nat.{ℕ, zero, suc, ◌+◌, ◌-◌, ◌*◌, ◌^◌, ◌≤◌, ◌<◌}
+use Prim.Native.Nat.{ℕ, zero, suc, ◌+◌, ◌*◌, ◌^◌, ◌≤◌, ◌<◌}
 use native.Mathlib.Omega.{arith}
 use native.Mathlib.Nat.{pow-suc}
 use borrow.Author.Tests.{leb-true, leb-false}
@@ -50,6 +50,16 @@ id_bits_is n b l h =
     let w = id_bits_least n in
     let r = w.reaches in
     omega (arith, w.least (suc b) (omega arith), pow_lt_cancel {a = b} {b = id_bits n} (omega arith))
+
+-- for each count of groups that a picture may have
+pub id_bits_1 : (n : ℕ) → n ≡ 1 → id_bits n ≡ 1
+id_bits_1 n e = id_bits_is n 0 (omega arith) (omega arith)
+
+pub id_bits_2 : (n : ℕ) → 2 ≤ n → n ≤ 3 → id_bits n ≡ 2
+id_bits_2 n l h = id_bits_is n 1 (omega arith) (omega arith)
+
+pub id_bits_3 : (n : ℕ) → 4 ≤ n → n ≤ 7 → id_bits n ≡ 3
+id_bits_3 n l h = id_bits_is n 2 (omega arith) (omega arith)
 
 -- ---- count fields of b bits
 

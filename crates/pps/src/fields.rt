@@ -8,6 +8,7 @@ use super::SliceGroupChangeType;
 use bits::{BitReader, Bits};
 
 // ue(v) of less than the limit, or the number.
+#[tactic(auto, unfolding(crate::specs::Rule::ue_below))]
 pub(crate) fn read_ue_below(s: &[u8], from: BitReader, limit: u32, number: u8) -> Bits
     ensures { Reads from result (ue_below limit number s.now from.at.0) }
 {
@@ -22,6 +23,7 @@ pub(crate) fn read_ue_below(s: &[u8], from: BitReader, limit: u32, number: u8) -
 }
 
 // The bits of a group id: the least b with 2^b at least num_slice_groups_minus1 + 1.
+#[tactic(auto, using(crate::proofs::Ids::id_bits_1, crate::proofs::Ids::id_bits_2, crate::proofs::Ids::id_bits_3))]
 pub(crate) fn id_bits(num_slice_groups_minus1: u32) -> u32
     requires { (1 ≤ num_slice_groups_minus1) × (num_slice_groups_minus1 ≤ 7) }
     ensures { result ≡ id_bits num_slice_groups_minus1 }

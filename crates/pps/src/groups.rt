@@ -80,6 +80,7 @@ fn read_rectangles(
     )
 }
 
+#[tactic(auto, unfolding(crate::specs::Rule::change))]
 fn read_change(
     s: &[u8],
     from: BitReader,

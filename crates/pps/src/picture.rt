@@ -10,6 +10,7 @@ use bits::BitReader;
 const MOST_UNITS: u32 = 36_864;
 
 impl Geometry {
+    #[tactic(auto, unfolding(crate::specs::Rule::bad_picture))]
     pub(crate) fn bad(self) -> bool
         ensures { result ≡ bad_picture self.pic_width_in_mbs self.pic_size_in_map_units }
     {
@@ -28,6 +29,7 @@ impl Geometry {
     }
 }
 
+#[tactic(auto, unfolding(crate::specs::Rule::bad_group_count))]
 pub(crate) fn bad_group_count(num_slice_groups_minus1: u32) -> bool
     ensures { result ≡ bad_group_count num_slice_groups_minus1 }
 {
@@ -38,6 +40,7 @@ pub(crate) fn bad_group_count(num_slice_groups_minus1: u32) -> bool
 }
 
 // The entry checks in document 01's order: 1, 2, 11. `ids` is the length of the lent id buffer.
+#[tactic(auto, unfolding(crate::specs::Answer::entry_for))]
 pub(crate) fn entry(
     s: &[u8],
     from: BitReader,

@@ -19,6 +19,7 @@ impl Rect {
 }
 
 // May a rectangle end at this map unit?
+#[tactic(auto, unfolding(crate::specs::Rule::bottom_right_ok))]
 fn bottom_right_ok(size: u32, unit: u32) -> bool
     ensures { result ≡ bottom_right_ok size unit }
 {
@@ -26,6 +27,7 @@ fn bottom_right_ok(size: u32, unit: u32) -> bool
 }
 
 // Both fields, and then the checks of them.
+#[tactic(auto, unfolding(crate::specs::Rule::rectangle))]
 pub(crate) fn rectangle(s: &[u8], from: BitReader, width: u32, size: u32) -> Rect
     requires { 0 < width }
     ensures { ReadsRect from result (rectangle width size s.now from.at.0) }
@@ -57,6 +59,7 @@ pub(crate) fn rectangle(s: &[u8], from: BitReader, width: u32, size: u32) -> Rec
 }
 
 impl SliceRect {
+    #[tactic(auto, unfolding(crate::specs::Answer::rect_of))]
     pub fn read(s: &[u8], from: BitReader, geometry: Geometry) -> Rect
         ensures { ReadsRectIn s.now from geometry result }
     {
