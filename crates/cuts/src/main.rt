@@ -5,7 +5,7 @@
 ghost use Rattle.std.specs.Prelude.{◌≡◌, length};
 
 use annexb::{AnnexBReader, Pushed};
-use libc::STDOUT_FILENO;
+use std::io;
 
 // A reader under way: the bytes taken, given and ended units so far, and whether all of them were as wanted.
 #[derive(Clone, Copy)]
@@ -299,10 +299,8 @@ fn every_case(
     n
 }
 
-fn line(word: &[u8], n: u64) {
-    io::write_all(STDOUT_FILENO, word);
-    io::print_decimal(STDOUT_FILENO, n);
-    io::write_all(STDOUT_FILENO, b"\n");
+fn line(rt: &impl Print, word: &str, n: u64) -> io::Result<()> {
+    println!(rt; "{word} {n}")
 }
 
 fn stream() -> [u8; 38]
@@ -330,7 +328,7 @@ fn bytes() -> [u8; 32]
 }
 
 // The second line of numbers is what the comparison makes of an answer that is wrong by one: every case differs.
-fn main() {
+fn main(rt: HostRuntime) -> io::Result<()> {
     let all = stream();
     let wanted = units();
     let ends = two(25, 32);
@@ -338,11 +336,12 @@ fn main() {
     let mut room = bytes();
     let mut marks = two(0, 0);
     let counts = every_case(&all, &mut room, &mut marks, &wanted, &ends);
-    line(b"cases ", counts.cases);
-    line(b"differences ", counts.differences);
+    line(&rt, "cases", counts.cases)?;
+    line(&rt, "differences", counts.differences)?;
     let altered = every_case(&all, &mut room, &mut marks, &wanted, &other);
     line(
-        b"differences from an answer altered by one ",
+        &rt,
+        "differences from an answer altered by one",
         altered.differences,
-    );
+    )
 }

@@ -11,7 +11,9 @@ mod groups;
 
 use bytes::{behind, front};
 use case::{Case, Counts};
-use libc::STDOUT_FILENO;
+use std::io::Read;
+use std::rt::Files;
+use std::{fs, io};
 
 fn right(case: Case, input: &[u8], output: &[u8], room: &mut [u8], marks: &mut [u64]) -> bool {
     let call = case.call;
@@ -31,66 +33,85 @@ fn judged(case: Case, body: &[u8], room: &mut [u8], marks: &mut [u64]) -> bool {
     right(case, input, output, room, marks)
 }
 
+// Reads until buf is full or the file ends, and answers how many bytes it put at the start of buf.
+fn read_full(file: &mut impl Read, buf: &mut [u8]) -> io::Result<usize> {
+    let mut done = 0;
+    while done < buf.len() {
+        let n = file.read(&mut buf[done..])?;
+        if n == 0 {
+            break;
+        }
+        done += n;
+    }
+    Ok(done)
+}
+
 // The next case of a file, if there is one more.
 fn one_more(
-    fd: i32,
+    file: &mut impl Read,
     counts: Counts,
     body: &mut [u8],
     room: &mut [u8],
     marks: &mut [u64],
-) -> Counts {
+) -> io::Result<Counts> {
     let mut head = [0u8; 36];
-    let got = io::read_full(fd, &mut head);
+    let got = read_full(file, &mut head)?;
     if got == 0 {
-        return counts.ended();
+        return Ok(counts.ended());
     }
     let case = case::parse(&head);
     let all = case.all();
     if all > body.len() {
-        return counts.broken();
+        return Ok(counts.broken());
     }
-    let read = io::read_full(fd, &mut body[..all]);
+    let read = read_full(file, &mut body[..all])?;
     if read != all {
-        return counts.broken();
+        return Ok(counts.broken());
     }
     let well = judged(case, body, room, marks);
-    counts.more(well)
+    Ok(counts.more(well))
 }
 
-fn every(fd: i32, body: &mut [u8], room: &mut [u8], marks: &mut [u64]) -> Counts {
+fn every(
+    file: &mut impl Read,
+    body: &mut [u8],
+    room: &mut [u8],
+    marks: &mut [u64],
+) -> io::Result<Counts> {
     let mut counts = case::none();
     let mut turns = u64::MAX;
     while turns > 0 {
-        counts = one_more(fd, counts, body, room, marks);
+        counts = one_more(file, counts, body, room, marks)?;
         if counts.done {
-            return counts;
+            return Ok(counts);
         }
         turns -= 1;
     }
-    counts
+    Ok(counts)
+}
+
+fn buffer() -> [u8; 4096] {
+    [0; 4096]
 }
 
 fn marks() -> [u64; 512] {
     [0; 512]
 }
 
-fn replay(name: &[u8], path: &[u8]) {
-    let fd = os::open_read(path);
-    let mut body = io::buffer();
-    let mut room = io::buffer();
+fn replay(rt: &(impl Files + Print), name: &str, path: &str) -> io::Result<()> {
+    let mut file = fs::open(rt, path)?;
+    let mut body = buffer();
+    let mut room = buffer();
     let mut ends = marks();
-    let counts = every(fd, &mut body, &mut room, &mut ends);
-    libc::close(fd);
-    io::write_all(STDOUT_FILENO, name);
-    io::print_decimal(STDOUT_FILENO, counts.cases);
-    io::write_all(STDOUT_FILENO, b" cases, ");
-    io::print_decimal(STDOUT_FILENO, counts.differences);
-    io::write_all(STDOUT_FILENO, b" differences\n");
+    let counts = every(&mut file, &mut body, &mut room, &mut ends)?;
+    let cases = counts.cases;
+    let differences = counts.differences;
+    println!(rt; "{name}: {cases} cases, {differences} differences")
 }
 
-fn main() {
-    replay(b"escaping: ", b"escaping.bin");
-    replay(b"framing: ", b"framing.bin");
-    replay(b"bits: ", b"bits.bin");
-    replay(b"groups: ", b"groups.bin");
+fn main(rt: HostRuntime) -> io::Result<()> {
+    replay(&rt, "escaping", "escaping.bin")?;
+    replay(&rt, "framing", "framing.bin")?;
+    replay(&rt, "bits", "bits.bin")?;
+    replay(&rt, "groups", "groups.bin")
 }

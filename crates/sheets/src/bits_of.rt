@@ -1,74 +1,73 @@
 // ue(v), and finish_rbsp.
 use super::say;
 use bits::{Bit, BitPos, BitReader, BitWriter, Put};
+use std::io;
 
 fn room() -> [u8; 16] {
     [0xAA; 16]
 }
 
 // The code that write_ue gives, bit for bit, and what read_ue makes of it.
-fn ue(value: u32) {
+fn ue(rt: &impl Print, value: u32) -> io::Result<()> {
     let mut room = room();
-    say::text(b"ue ");
-    say::number(value as u64);
-    say::text(b":");
+    say::text(rt, "ue ")?;
+    say::number(rt, value as u64)?;
+    say::text(rt, ":")?;
     let put = BitWriter::new().write_ue(&mut room, value);
     let Put::Done(w) = put else {
-        say::text(b" refused\n");
-        return;
+        return say::text(rt, " refused\n");
     };
     let put = w.write_rbsp_trailing_bits(&mut room);
     let Put::Done(_) = put else {
-        say::text(b" refused\n");
-        return;
+        return say::text(rt, " refused\n");
     };
-    say::text(b" ");
+    say::text(rt, " ")?;
     let read = BitReader::new().read_ue(&room);
     let bits::Bits::Value(back, end) = read else {
-        say::text(b"not read\n");
-        return;
+        return say::text(rt, "not read\n");
     };
-    code(&room, end.at.0);
-    say::text(b", read back ");
-    say::number(back as u64);
-    say::line();
+    code(rt, &room, end.at.0)?;
+    say::text(rt, ", read back ")?;
+    say::number(rt, back as u64)?;
+    say::line(rt)
 }
 
 // The first `count` bits.
-fn code(s: &[u8], count: usize) {
+fn code(rt: &impl Print, s: &[u8], count: usize) -> io::Result<()> {
     let mut r = BitReader::new();
     let mut i = 0;
     while i < count {
         let bit = r.read_bit(s);
         let Bit::Value(one, next) = bit else {
-            return;
+            return Ok(());
         };
-        say::bit(one);
+        say::bit(rt, one)?;
         r = next;
         i += 1;
     }
+    Ok(())
 }
 
-fn finish(s: &[u8], at: usize) {
-    say::text(b"finish");
-    say::bytes(s);
-    say::text(b" at ");
-    say::number(at as u64);
-    say::text(b": ");
+fn finish(rt: &impl Print, s: &[u8], at: usize) -> io::Result<()> {
+    say::text(rt, "finish")?;
+    say::bytes(rt, s)?;
+    say::text(rt, " at ")?;
+    say::number(rt, at as u64)?;
+    say::text(rt, ": ")?;
     let r = BitReader { at: BitPos(at) };
-    say::number(r.finish_rbsp(s) as u64);
-    say::line();
+    say::number(rt, r.finish_rbsp(s) as u64)?;
+    say::line(rt)
 }
 
-pub fn cases() {
-    ue(0);
-    ue(1);
-    ue(2);
-    ue(3);
-    ue(4294967294);
-    finish(b"\x80\x00\x00", 0);
-    finish(b"\xC0", 0);
-    finish(b"\xC0", 1);
-    finish(b"\x00", 0);
-    finish(b"\x40", 0);
+pub fn cases(rt: &impl Print) -> io::Result<()> {
+    ue(rt, 0)?;
+    ue(rt, 1)?;
+    ue(rt, 2)?;
+    ue(rt, 3)?;
+    ue(rt, 4294967294)?;
+    finish(rt, b"\x80\x00\x00", 0)?;
+    finish(rt, b"\xC0", 0)?;
+    finish(rt, b"\xC0", 1)?;
+    finish(rt, b"\x00", 0)?;
+    finish(rt, b"\x40", 0)
 }

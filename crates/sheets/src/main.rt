@@ -7,9 +7,11 @@ mod framing;
 mod groups;
 mod say;
 
-fn main() {
-    escaping::cases();
-    bits_of::cases();
-    framing::cases();
-    groups::cases();
+use std::io;
+
+fn main(rt: HostRuntime) -> io::Result<()> {
+    escaping::cases(&rt)?;
+    bits_of::cases(&rt)?;
+    framing::cases(&rt)?;
+    groups::cases(&rt)
 }

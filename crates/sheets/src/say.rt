@@ -1,50 +1,47 @@
 // Lines on standard output.
-use libc::STDOUT_FILENO;
+use std::io;
 
-pub fn text(words: &[u8]) {
-    io::write_all(STDOUT_FILENO, words);
+pub fn text(rt: &impl Print, words: &str) -> io::Result<()> {
+    rt.print(words)
 }
 
-pub fn number(n: u64) {
-    io::print_decimal(STDOUT_FILENO, n);
+pub fn number(rt: &impl Print, n: u64) -> io::Result<()> {
+    rt.print(n)
 }
 
-fn byte(b: u8) {
-    text(b" ");
-    io::print_hex(STDOUT_FILENO, b as u64, 2);
+fn byte(rt: &impl Print, b: u8) -> io::Result<()> {
+    print!(rt; " {b:02x}")
 }
 
 // Each byte in hexadecimal, behind a space.
-pub fn bytes(b: &[u8]) {
+pub fn bytes(rt: &impl Print, b: &[u8]) -> io::Result<()> {
     let mut i = 0;
     while i < b.len() {
-        byte(b[i]);
+        byte(rt, b[i])?;
         i += 1;
     }
+    Ok(())
 }
 
 // The first n of them.
-pub fn front(b: &[u8], n: usize) {
+pub fn front(rt: &impl Print, b: &[u8], n: usize) -> io::Result<()> {
     if n <= b.len() {
-        bytes(&b[0..n]);
+        bytes(rt, &b[0..n])?;
     }
+    Ok(())
 }
 
-pub fn bit(one: bool) {
-    if one {
-        text(b"1");
-    } else {
-        text(b"0");
-    }
+pub fn bit(rt: &impl Print, one: bool) -> io::Result<()> {
+    if one { text(rt, "1") } else { text(rt, "0") }
 }
 
 // A unit.
-pub fn unit(b: &[u8]) {
-    text(b" [");
-    bytes(b);
-    text(b" ]");
+pub fn unit(rt: &impl Print, b: &[u8]) -> io::Result<()> {
+    text(rt, " [")?;
+    bytes(rt, b)?;
+    text(rt, " ]")
 }
 
-pub fn line() {
-    text(b"\n");
+pub fn line(rt: &impl Print) -> io::Result<()> {
+    text(rt, "\n")
 }
