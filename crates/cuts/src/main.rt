@@ -300,7 +300,7 @@ fn every_case(
 }
 
 fn line(rt: &impl Print, word: &str, n: u64) -> io::Result<()> {
-    println!(rt; "{word} {n}")
+    println!(rt; "{word}{n}")
 }
 
 fn stream() -> [u8; 38]
@@ -336,12 +336,12 @@ fn main(rt: HostRuntime) -> io::Result<()> {
     let mut room = bytes();
     let mut marks = two(0, 0);
     let counts = every_case(&all, &mut room, &mut marks, &wanted, &ends);
-    line(&rt, "cases", counts.cases)?;
-    line(&rt, "differences", counts.differences)?;
+    line(&rt, "cases ", counts.cases)?;
+    line(&rt, "differences ", counts.differences)?;
     let altered = every_case(&all, &mut room, &mut marks, &wanted, &other);
     line(
         &rt,
-        "differences from an answer altered by one",
+        "differences from an answer altered by one ",
         altered.differences,
     )
 }

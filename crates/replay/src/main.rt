@@ -104,14 +104,15 @@ fn replay(rt: &(impl Files + Print), name: &str, path: &str) -> io::Result<()> {
     let mut room = buffer();
     let mut ends = marks();
     let counts = every(&mut file, &mut body, &mut room, &mut ends)?;
-    let cases = counts.cases;
-    let differences = counts.differences;
-    println!(rt; "{name}: {cases} cases, {differences} differences")
+    println!(rt;
+        "{name}{} cases, {} differences",
+        counts.cases, counts.differences
+    )
 }
 
 fn main(rt: HostRuntime) -> io::Result<()> {
-    replay(&rt, "escaping", "escaping.bin")?;
-    replay(&rt, "framing", "framing.bin")?;
-    replay(&rt, "bits", "bits.bin")?;
-    replay(&rt, "groups", "groups.bin")
+    replay(&rt, "escaping: ", "escaping.bin")?;
+    replay(&rt, "framing: ", "framing.bin")?;
+    replay(&rt, "bits: ", "bits.bin")?;
+    replay(&rt, "groups: ", "groups.bin")
 }
