@@ -8,6 +8,13 @@ use Rattle.pps.proofs.Below.{ids_known}
 use Rattle.pps.proofs.Results.{ids_stop, ids_few, ids_fit, ids_no_room, ids_end}
 use Rattle.pps.proofs.group_ids.read_group_ids.Goals as goal
 
+-- first, since it fails where too few bits are known to be there
+pub put_ids-end-requires : goal.put_ids-end-requires
+put_ids-end-requires c =
+    ids_fit c.args.from _ _ _ _ _ (refusal c.args.from 0) c.requires _ _
+    (read_is _ _ c.read_ue_below-first.ensures c.in-Value.is) _ c.id_bits-width.ensures _ _
+    (skip_is _ _ c.skip-all.ensures c.in-To.is) c.if-count-ids.false
+
 pub returns-in_default : goal.returns-in_default
 returns-in_default c =
     ids_stop _ _ _ _ _ _ _ _ _ (read_is _ _ c.read_ue_below-first.ensures c.in_default.is)
@@ -34,12 +41,6 @@ pub returns-then-count-ids : goal.returns-then-count-ids
 returns-then-count-ids c =
     ids_no_room _ _ _ _ _ _ _ c.requires _ _ (read_is _ _ c.read_ue_below-first.ensures c.in-Value.is) _ c.id_bits-width.ensures _ _
     (skip_is _ _ c.skip-all.ensures c.in-To.is) c.if-count-ids.true c.refused-then-count-ids.ensures
-
-pub put_ids-end-requires : goal.put_ids-end-requires
-put_ids-end-requires c =
-    ids_fit c.args.from _ _ _ _ _ (refusal c.args.from 0) c.requires _ _
-    (read_is _ _ c.read_ue_below-first.ensures c.in-Value.is) _ c.id_bits-width.ensures _ _
-    (skip_is _ _ c.skip-all.ensures c.in-To.is) c.if-count-ids.false
 
 pub returns : goal.returns
 returns c =
