@@ -15,6 +15,7 @@ ghost use Rattle.lister.specs.System.{more_to_come, KeptOrFailed, WasRead, WasSe
 
 use annexb::AnnexBReader;
 use counting::Tally;
+use std::process::ExitCode;
 use system::{END, MORE};
 
 // What is kept between two pieces of the input.
@@ -191,8 +192,8 @@ fn list_all(
     }
 }
 
-// A program has no exit status here: what failed is told on standard error.
-pub fn list_standard_input(rt: HostRuntime) {
+// What failed is told on standard error, and by the exit status that the program is to end with.
+pub fn list_standard_input(rt: HostRuntime) -> ExitCode {
     let mut chunk = io::large_buffer();
     let mut room = io::large_buffer();
     let mut marks = mark_room();
@@ -210,5 +211,10 @@ pub fn list_standard_input(rt: HostRuntime) {
         &mut sent,
         &mut status,
     );
-    system::complain(rt, status, read, sent);
+    system::complain_of_read(rt, status, read);
+    if status == END {
+        ExitCode::SUCCESS
+    } else {
+        ExitCode::FAILURE
+    }
 }

@@ -4,7 +4,7 @@
 ghost use Rattle.std.specs.Prelude.{◌≡◌, ◌≤◌, length};
 ghost use Rattle.lister.specs.System.{over_by, TookIn, HandedOut};
 
-use std::io::{Eprint, Print, Read};
+use std::io::{Eprint, Error, ErrorKind, Print, Read};
 
 pub(crate) const MORE: u8 = 0;
 
@@ -45,22 +45,28 @@ pub(crate) fn hand_out(rt: HostRuntime, text: &[u8], filled: usize, sent: &mut u
     ensures { HandedOut text.now filled sent.old status.old sent.new status.new }
 {
     *sent = std::num::wrapping_add_u64(*sent, filled as u64);
-    if Print::write_all(&rt.stdout(), &text[..filled]).is_err() {
+    if let Err(why) = Print::write_all(&rt.stdout(), &text[..filled]) {
         *status = WRITE_FAILED;
+        complain_of_write(rt, why, *sent);
     }
 }
 
-// Tells on standard error what failed, and where. Where that fails too, there is nobody to tell.
-pub(crate) fn complain(rt: HostRuntime, status: u8, read: u64, sent: u64) {
-    if status == WRITE_FAILED {
-        let _ = eprintln!(rt;
-            "listing: standard output: a write failed within the first {sent} bytes"
-        );
+// Tells on standard error that a write failed, and where. A reader that leaves, as `head` does, wants to hear no more. Where telling fails too, there is
+// nobody to tell.
+fn complain_of_write(rt: HostRuntime, why: Error, sent: u64) {
+    if why.kind() == ErrorKind::BrokenPipe {
         return;
     }
-    if status != END {
-        let _ = eprintln!(rt;
-            "listing: standard input: a read failed behind {read} bytes; no total"
-        );
+    let _ = eprintln!(rt; "listing: standard output: a write failed within the first {sent} bytes");
+}
+
+// Tells on standard error that a read failed, and where.
+pub(crate) fn complain_of_read(rt: HostRuntime, status: u8, read: u64) {
+    if status == END {
+        return;
     }
+    if status == WRITE_FAILED {
+        return;
+    }
+    let _ = eprintln!(rt; "listing: standard input: a read failed behind {read} bytes; no total");
 }

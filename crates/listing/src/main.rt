@@ -1,6 +1,8 @@
 // Lists the units of the Annex B stream on standard input.
 #![tactic(auto)]
 
-fn main(rt: HostRuntime) {
-    lister::list_standard_input(rt);
+use std::process::ExitCode;
+
+fn main(rt: HostRuntime) -> ExitCode {
+    lister::list_standard_input(rt)
 }

@@ -2,6 +2,8 @@
 // digits, a start code and a unit across the end of a read, zeros between units, and two zeros at the end, which join the last unit.
 #![tactic(auto)]
 
-fn main(rt: HostRuntime) {
-    lister::list_standard_input(rt);
+use std::process::ExitCode;
+
+fn main(rt: HostRuntime) -> ExitCode {
+    lister::list_standard_input(rt)
 }

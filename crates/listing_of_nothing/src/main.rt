@@ -1,6 +1,8 @@
 // The same program as `listing`, run on empty input.
 #![tactic(auto)]
 
-fn main(rt: HostRuntime) {
-    lister::list_standard_input(rt);
+use std::process::ExitCode;
+
+fn main(rt: HostRuntime) -> ExitCode {
+    lister::list_standard_input(rt)
 }

@@ -7,8 +7,8 @@ counted : (text : List ℕ) (filled sent sent' : ℕ) → filled ≤ length text
     → (w : List ℕ) → WasSent w sent → WasSent (w ++ take filled text) sent'
 counted text filled sent sent' h e w k = through_more 1 w (take filled text) sent sent' k (omega (arith, e, length-take-le filled text h))
 
-pub returns-then-is_err : goal.returns-then-is_err
-returns-then-is_err c =
+pub returns-in-Err : goal.returns-in-Err
+returns-in-Err c =
     let p = c.wrapping_add_u64 in
     let a = c.args in
     record {
@@ -16,8 +16,8 @@ returns-then-is_err c =
       well = λ h. absurd (h refl);
     }
 
-pub returns-else-is_err : goal.returns-else-is_err
-returns-else-is_err c =
+pub returns-in_default : goal.returns-in_default
+returns-in_default c =
     let p = c.wrapping_add_u64 in
     let a = c.args in
     record { handed = counted a.text.now a.filled a.sent.now p.result c.requires p.ensures.value; well = λ _. refl }
