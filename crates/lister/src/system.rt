@@ -51,8 +51,8 @@ pub(crate) fn hand_out(rt: HostRuntime, text: &[u8], filled: usize, sent: &mut u
     }
 }
 
-// Tells on standard error that a write failed, and where. A reader that leaves, as `head` does, wants to hear no more. Where telling fails too, there is
-// nobody to tell.
+// Tells on standard error that a write failed, and where. A reader that leaves, as `head` does, wants to hear no more. Where telling fails too, there
+// is nobody to tell.
 fn complain_of_write(rt: HostRuntime, why: Error, sent: u64) {
     if why.kind() == ErrorKind::BrokenPipe {
         return;
