@@ -2,33 +2,37 @@
 use Prim.Native.Nat.{ℕ, ◌≤◌, zero-le}
 use native.Mathlib.Omega.{arith}
 use lib.Dec.{ltb}
-use mathlib.Core.Path.{◌≡◌, refl, ap, ap₂, sym, ◌∙◌, subst}
+use mathlib.Core.Path.{◌≡◌, refl, ap, ap₂, sym, subst}
 use mathlib.Core.Bool.{Bool, true, false, ◌&&◌}
 use mathlib.Core.List.{List, [], ◌∷◌, ◌++◌}
-use mathlib.Core.Option.{some-injective}
+use mathlib.Core.Option.{none, some-injective}
 use lib.ListN.{length, replicate, length-append, length-replicate}
-use borrow.Author.Tests.{le-ltb}
+use borrow.Author.Tests.{le-ltb, ltb-false}
+use Rattle.std.specs.Prelude.{Result, Ok, Err}
+use Rattle.desk.specs.Refusing.{answered}
+use Rattle.desk.specs.Steps.{pushed_of, Gave}
+use Rattle.desk.specs.declared.push.Pushed.{Pushed}
+use Rattle.desk.specs.declared.refusal.Refusal.{Refusal}
 use Rattle.desk.specs.Search.{is0, is1, up_to1}
 use Rattle.desk.specs.Zeros.{two}
 use Rattle.desk.specs.Push.{Out, Answer, marked, push_of, Pushes, shifted, Seen, seen, Cut, accepts, Longest}
 use Rattle.desk.proofs.Choice.{cond_ind}
 use Rattle.desk.proofs.Cutting.{pushes_cut}
-use Rattle.desk.proofs.Entering.{entry_done}
+use Rattle.desk.proofs.Entering.{entry_done, entry_passed}
 use Rattle.desk.proofs.Lists.{trail_few}
 use Rattle.desk.proofs.Once.{at_once}
 use Rattle.desk.proofs.Restarting.{restart}
+use Rattle.desk.proofs.Running.{push_kept}
 use Rattle.desk.proofs.Taking.{push_entered, never_7, push_longest, takes_first}
-use Rattle.desk.proofs.Unique.{one_outcome}
+use Rattle.desk.proofs.Unique.{one_gave}
 use Rattle.desk.proofs.Ways.{way}
 use Rattle.annexb.specs.declared.AnnexBReader.{AnnexBReader}
-use Rattle.annexb.specs.declared.Pushed.{Pushed}
 use Rattle.annexb.specs.Rule.{given, ends, frame, frame_from}
 use Rattle.annexb.specs.Seen.{new, rule, state_of}
 use Rattle.annexb.specs.Step.{in_step, out_step, step, stepping}
-use Rattle.annexb.specs.Answer.{entering, push_answer, Gave, FramePush}
+use Rattle.annexb.specs.Answer.{entering, push_answer, FramePush}
 use Rattle.annexb.specs.Promise.{FramesAtOnce, Framing, FrameWay}
 use Rattle.annexb.proofs.Following.{follows}
-use Rattle.annexb.proofs.Pushing.{zeros_passed}
 
 -- ---- cuts
 
@@ -40,8 +44,8 @@ pushes_rule {s₀} k p = pushes_cut (follows s₀ k) p
 -- ONE PUSH, where the limit and the rooms let it, does what any pushes did, from any state that is not bad
 pub frames_at_once : {s₀ : AnnexBReader} → s₀.zeros ≤ 2 → {stream : List ℕ} {n : ℕ} {s : AnnexBReader} {g e : List ℕ}
     → Pushes stepping entering s₀ stream n s g e → FramesAtOnce s₀ stream n s g e
-frames_at_once {s₀} k {stream} {n} p room marks room' marks' r o nf rf mf =
-    at_once (follows s₀ k) p room marks room' marks' r.number r.taken r.written r.marked r.state o
+frames_at_once {s₀} k {stream} {n} p room marks s' room' marks' r o nf rf mf =
+    at_once (follows s₀ k) p room marks room' marks' (answered r) (pushed_of r).taken (pushed_of r).written (pushed_of r).marked s' o
     (entry_done (n ∷ length room ∷ length marks ∷ []) (ltb 2 s₀.zeros) (nf, (rf, (mf, tt))) (le-ltb 2 s₀.zeros k))
 
 -- FRAMING, from a new reader
@@ -72,8 +76,9 @@ onward h t = restart (follows new zero-le) h (follows (state_of h) (trail_few (f
 -- ---- room
 
 module _ (s : AnnexBReader) (chunk : List ℕ) (w m : ℕ) (e : entering s (length chunk) w m ≡ 0) where
+  -- a call that passes its entry checks holds two zeros at most
   few : s.zeros ≤ 2
-  few = zeros_passed (length chunk ∷ w ∷ m ∷ []) s.zeros (entering s (length chunk) w m) refl e
+  few = ltb-false 2 s.zeros (entry_passed (length chunk ∷ w ∷ m ∷ []) (ltb 2 s.zeros) e).1
 
   from_here : push_of stepping 0 (rule s []).state chunk w m ≡ push_answer s chunk w m
   from_here =
@@ -103,13 +108,13 @@ push_takes_one s b bs w m e h k =
     subst (λ (n : ℕ). 1 ≤ (push_of stepping n s (b ∷ bs) w m).taken) (sym e)
     (takes_first stepping s b bs w m (step s b) refl (omega (arith, step_three s b z)) (omega (arith, mark_one (step s b).mark [])))
 
--- wherever the answer is 0
-pub frame_one : (s : AnnexBReader) (b : ℕ) (bs room marks room' marks' : List ℕ) (r : Pushed) → FramePush s (b ∷ bs) room marks room' marks' r
-    → r.number ≡ 0 → 3 ≤ length room → 1 ≤ length marks → 1 ≤ r.taken
-frame_one s b bs room marks room' marks' r o z h k =
+-- wherever it is not refused
+pub frame_one : (s : AnnexBReader) (b : ℕ) (bs room marks : List ℕ) (s' : AnnexBReader) (room' marks' : List ℕ) (p : Pushed)
+    → FramePush s (b ∷ bs) room marks s' room' marks' (Ok p)
+    → 3 ≤ length room → 1 ≤ length marks → 1 ≤ p.taken
+frame_one s b bs room marks s' room' marks' p o h k =
     let e =
-    push_entered stepping (entering s (length (b ∷ bs)) (length room) (length marks)) s (b ∷ bs) (length room) (length marks)
-    (sym o.number_is ∙ z) in
+    push_entered stepping (entering s (length (b ∷ bs)) (length room) (length marks)) s (b ∷ bs) (length room) (length marks) (sym o.number_is) in
     let n = push_takes_one s b bs (length room) (length marks) e h k in
     omega (arith, o.taken_is)
 
@@ -128,22 +133,20 @@ frame_way s₀ k stream =
 
 -- ---- numbers
 
+pub none_forbidden : (s : AnnexBReader) (b : ℕ) → stepping s b ≡ none → ⊥
+none_forbidden s b e = cc
+
 -- a push answers 0, 1 or 2, by its entry checks alone
 pub push_number : (s : AnnexBReader) (chunk : List ℕ) (w m : ℕ) → (push_answer s chunk w m).number ≡ entering s (length chunk) w m
-push_number s chunk w m = never_7 stepping (λ x b e. let z : ◌≡◌ {A = ℕ} 0 1 = cc in omega arith) (entering s (length chunk) w m) s chunk w m
+push_number s chunk w m = never_7 stepping none_forbidden (entering s (length chunk) w m) s chunk w m
+
+-- A PUSH THAT IS REFUSED leaves the state and both rooms as they were
+pub refused_kept : (s : AnnexBReader) (chunk room marks : List ℕ) (s' : AnnexBReader) (room' marks' : List ℕ) (why : Refusal)
+    → FramePush s chunk room marks s' room' marks' (Err why) → (s' ≡ s) × (room' ≡ room) × (marks' ≡ marks)
+refused_kept s chunk room marks s' room' marks' why o = push_kept stepping none_forbidden _ s chunk why o
 
 -- ---- ONE OUTCOME: what the contract of a push or of a reset says leaves one
-pub one_result : {a : Answer AnnexBReader} {room marks room₁ room₂ marks₁ marks₂ : List ℕ} {r₁ r₂ : Pushed}
-    → Gave a room marks room₁ marks₁ r₁ → Gave a room marks room₂ marks₂ r₂ → (r₁ ≡ r₂) × (room₁ ≡ room₂) × (marks₁ ≡ marks₂)
-one_result p q =
-    let same = one_outcome p q in (
-      λ i. record {
-        number = same.number i;
-        taken = same.taken i;
-        written = same.wrote i;
-        marked = same.marked i;
-        state = same.state i;
-      },
-      same.out,
-      same.marks,
-    )
+pub one_result : {a : Answer AnnexBReader} {room marks : List ℕ} {s₁ s₂ : AnnexBReader} {room₁ room₂ marks₁ marks₂ : List ℕ}
+    {r₁ r₂ : Result Pushed Refusal}
+    → Gave a room marks s₁ room₁ marks₁ r₁ → Gave a room marks s₂ room₂ marks₂ r₂ → (r₁ ≡ r₂) × (s₁ ≡ s₂) × (room₁ ≡ room₂) × (marks₁ ≡ marks₂)
+one_result = one_gave

@@ -5,12 +5,9 @@ pub mod Completing
 pub mod Following
 pub mod Framing
 pub mod Laws
-pub mod Pushing
 pub mod Reach
 pub mod Resetting
 pub mod Sheets
-pub mod Stepping
 pub mod Streams
 pub mod Table
 pub mod Ways
-pub mod Writing

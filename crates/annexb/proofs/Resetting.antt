@@ -1,64 +1,94 @@
 -- A reset, by the branches of the code.
 use Prim.Native.Nat.{ℕ, ◌≤◌, ◌<◌}
-use mathlib.Core.Path.{◌≡◌, refl, sym, ◌∙◌, subst⁻¹}
-use mathlib.Core.Bool.{true, false, ◌&&◌, and-false}
+use native.Mathlib.Omega.{arith}
+use mathlib.Core.Path.{◌≡◌, refl, ap, ap₂, sym, ◌∙◌, subst⁻¹}
+use mathlib.Core.Bool.{Bool, true, false, cond, ◌&&◌, and-false}
 use mathlib.Core.List.{List, [], ◌∷◌}
 use lib.Dec.{leb}
 use lib.ListN.{length, replicate, length-replicate}
 use borrow.Author.Tests.{le-leb, lt-leb, ne_eqb}
+use mir.Val.{bool_byte}
+use Rattle.std.specs.Prelude.{Result, Ok, Err}
+use Rattle.desk.specs.Refusing.{number_of}
 use Rattle.desk.specs.Room.{with_front}
 use Rattle.desk.specs.Push.{Answer, answers}
+use Rattle.desk.specs.Steps.{Gave}
+use Rattle.desk.specs.declared.push.Pushed.{Pushed}
+use Rattle.desk.specs.declared.refusal.Refusal.{Refusal}
+use Rattle.desk.specs.declared.refusal.Refusal.TheVariants.{NoRoom}
 use Rattle.desk.proofs.Pushing.{gives_alone}
+use Rattle.desk.proofs.Refusing.{number_some}
 use Rattle.annexb.specs.declared.AnnexBReader.{AnnexBReader}
-use Rattle.annexb.specs.declared.Pushed.{Pushed}
 use Rattle.annexb.specs.Seen.{new}
-use Rattle.annexb.specs.Answer.{entering, closing, reset_answer, Gave, FrameReset, gave, alone}
+use Rattle.annexb.specs.Answer.{entering, closing, reset_answer, FrameReset}
 
-module _ (s : AnnexBReader) (out marks : List ℕ) {n : ℕ} (e : n ≡ entering s 0 (length out) (length marks)) where
-  abbrev Resets : List ℕ → List ℕ → Pushed → Type 0
-  Resets out' marks' r = FrameReset s out marks out' marks' r
-
-  pub reset_refused : (n ≡ 0 → ⊥) → Resets out marks (alone n s)
+module _ (s : AnnexBReader) (room marks : List ℕ) where
+  pub reset_refused : (why : Refusal) → number_of why ≡ entering s 0 (length room) (length marks)
+      → FrameReset s room marks s room marks (Err why)
   unfolding reset_answer
-  reset_refused h = rw (← e, ne_eqb n 0 h) (gives_alone n s out marks)
+  reset_refused why e =
+      let z = number_some why in
+      let n : number_of why ≡ 0 → ⊥ = λ q. omega arith in
+      rw (← e, ne_eqb (number_of why) 0 n) (gives_alone (number_of why) s room marks)
 
-  module _ (z : n ≡ 0) where
-    went : reset_answer s (length out) (length marks) ≡ closing s (length out) (length marks)
+  module _ (z : 0 ≡ entering s 0 (length room) (length marks)) where
+    went : reset_answer s (length room) (length marks) ≡ closing s (length room) (length marks)
     unfolding reset_answer
-    went = rw (← e, z) refl
+    went = rw (← z) refl
 
-    reset_is : (a : Answer AnnexBReader) {out' marks' : List ℕ} {r : Pushed} → closing s (length out) (length marks) ≡ a
-        → Gave a out marks out' marks' r → Resets out' marks' r
-    reset_is a {out'} {marks'} {r} q g = subst⁻¹ (λ (x : Answer AnnexBReader). Gave x out marks out' marks' r) (went ∙ q) g
+    reset_is : (a : Answer AnnexBReader) (r : Result Pushed Refusal) {s' : AnnexBReader} {room' marks' : List ℕ}
+        → closing s (length room) (length marks) ≡ a → Gave a room marks s' room' marks' r → FrameReset s room marks s' room' marks' r
+    reset_is a r {s'} {room'} {marks'} q g = subst⁻¹ (λ (x : Answer AnnexBReader). Gave x room marks s' room' marks' r) (went ∙ q) g
 
-    pub reset_outside : s.in_unit ≡ false → Resets out marks (alone 0 new)
-    unfolding closing
-    reset_outside o = reset_is (answers 0 new) (rw o refl) (gives_alone 0 new out marks)
-
-    module _ (o : s.in_unit ≡ true) where
-      reset_10 : (leb s.zeros (length out) && leb 1 (length marks)) ≡ false → Resets out marks (alone 10 s)
+    module _ (held ends : ℕ) (eh : held ≡ cond s.in_unit s.zeros 0) (ee : ends ≡ bool_byte s.in_unit) where
+      reset_10 : s.in_unit ≡ true → (leb s.zeros (length room) && leb 1 (length marks)) ≡ false → FrameReset s room marks s room marks (Err NoRoom)
       unfolding closing
-      reset_10 k = reset_is (answers 10 s) (rw (o, k) refl) (gives_alone 10 s out marks)
+      reset_10 o k = reset_is (answers 10 s) (Err NoRoom) (rw (o, k) refl) (gives_alone 10 s room marks)
 
-      pub reset_no_room : length out < s.zeros → Resets out marks (alone 10 s)
-      reset_no_room h = reset_10 (rw (lt-leb s.zeros (length out) h) refl)
+      pub reset_no_room : length room < held → FrameReset s room marks s room marks (Err NoRoom)
+      reset_no_room h = go s.in_unit refl eh
+        where
+          go : (o : Bool) → s.in_unit ≡ o → held ≡ cond o s.zeros 0 → FrameReset s room marks s room marks (Err NoRoom)
+          go true o e = reset_10 o (rw (lt-leb s.zeros (length room) (omega arith)) refl)
+          go false o e = absurd (let x : ⊥ = omega arith in x)
 
-      pub reset_no_mark : length marks < 1 → Resets out marks (alone 10 s)
-      reset_no_mark h = reset_10 (rw (lt-leb 1 (length marks) h) (and-false (leb s.zeros (length out))))
+      pub reset_no_mark : length marks < ends → FrameReset s room marks s room marks (Err NoRoom)
+      reset_no_mark h = go s.in_unit refl ee
+        where
+          go : (o : Bool) → s.in_unit ≡ o → ends ≡ bool_byte o → FrameReset s room marks s room marks (Err NoRoom)
+          go true o e = reset_10 o (rw (lt-leb 1 (length marks) (omega arith)) (and-false (leb s.zeros (length room))))
+          go false o e = absurd (let x : ⊥ = omega arith in x)
 
-      pub reset_ends : (out' marks' : List ℕ) → s.zeros ≤ length out → 1 ≤ length marks → out' ≡ with_front out (replicate s.zeros 0)
-          → marks' ≡ with_front marks (s.zeros ∷ [])
-          → Resets out' marks' (gave 0 s.zeros 1 new)
+      pub reset_ends : {room' marks' : List ℕ} → held ≤ length room → ends ≤ length marks → room' ≡ with_front room (replicate held 0)
+          → marks' ≡ with_front marks (replicate ends held)
+          → FrameReset s room marks new room' marks' (Ok (record { taken = 0; written = held; marked = ends }))
       unfolding closing
-      reset_ends out' marks' a b p q =
-          reset_is (record { number = 0; taken = 0; bytes = replicate s.zeros 0; marks = s.zeros ∷ []; after = new })
-          (rw (o, le-leb s.zeros (length out) a, le-leb 1 (length marks) b) refl)
-          (record {
-            number_is = refl;
-            taken_is = refl;
-            wrote_is = sym (length-replicate s.zeros 0);
-            marked_is = refl;
-            state_is = refl;
-            room = p;
-            mark_room = q;
-          })
+      reset_ends {room'} {marks'} a b p q = go s.in_unit refl eh ee
+        where
+          go : (o : Bool) → s.in_unit ≡ o → held ≡ cond o s.zeros 0 → ends ≡ bool_byte o
+              → FrameReset s room marks new room' marks' (Ok (record { taken = 0; written = held; marked = ends }))
+          go true o e f =
+              let h : s.zeros ≤ length room = omega arith in
+              let k : 1 ≤ length marks = omega arith in
+              reset_is (record { number = 0; taken = 0; bytes = replicate s.zeros 0; marks = s.zeros ∷ []; after = new })
+              (Ok (record { taken = 0; written = held; marked = ends })) (rw (o, le-leb s.zeros (length room) h, le-leb 1 (length marks) k) refl)
+              (record {
+                number_is = refl;
+                taken_is = refl;
+                wrote_is = e ∙ sym (length-replicate s.zeros 0);
+                marked_is = f;
+                state_is = refl;
+                room = p ∙ ap (λ (n : ℕ). with_front room (replicate n 0)) e;
+                mark_room = q ∙ ap₂ (λ (n x : ℕ). with_front marks (replicate n x)) f e;
+              })
+          go false o e f =
+              reset_is (answers 0 new) (Ok (record { taken = 0; written = held; marked = ends })) (rw o refl)
+              (record {
+                number_is = refl;
+                taken_is = refl;
+                wrote_is = e;
+                marked_is = f;
+                state_is = refl;
+                room = p ∙ ap (λ (n : ℕ). with_front room (replicate n 0)) e;
+                mark_room = q ∙ ap (λ (n : ℕ). with_front marks (replicate n held)) f;
+              })

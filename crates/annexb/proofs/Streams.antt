@@ -6,9 +6,10 @@ use mathlib.Core.Path.{◌≡◌, refl, ap, ap₂, sym, ◌∙◌}
 use mathlib.Core.List.{List, [], ◌∷◌, ◌++◌, head-eq_of_cons-eq, tail-eq_of_cons-eq}
 use lib.ListN.{length, take, drop}
 use lib.Seq.{take_at, drop_at, take-length}
+use Rattle.std.specs.Prelude.{Ok}
 use Rattle.desk.specs.Push.{Pushes, shifted}
+use Rattle.desk.specs.declared.push.Pushed.{Pushed}
 use Rattle.annexb.specs.declared.AnnexBReader.{AnnexBReader}
-use Rattle.annexb.specs.declared.Pushed.{Pushed}
 use Rattle.annexb.specs.Rule.{joined, ends_from, units_at_reset}
 use Rattle.annexb.specs.Seen.{new}
 use Rattle.annexb.specs.Step.{stepping}
@@ -33,9 +34,9 @@ units_are k (u ∷ us) (v ∷ vs) j e =
 -- A BYTE STREAM BY THE TABLE, THROUGH ANY PUSHES OF ALL OF IT AND ONE RESET: its NAL units, joined and by their ends
 pub table_pushed : (leading : ℕ) (us : List ByteStreamNalUnit) → AllAllowed us → NoneJoin us
     → {s : AnnexBReader} {g e : List ℕ} → Pushes stepping entering new (byte_stream leading us) (length (byte_stream leading us)) s g e
-    → (room marks room' marks' : List ℕ) (r : Pushed) → FrameReset s room marks room' marks' r → r.number ≡ 0
-    → (g ++ take r.written room' ≡ joined (nal_units us)) × (e ++ shifted (length g) (take r.marked marks') ≡ ends_from 0 (nal_units us))
-table_pushed leading us a k p room marks room' marks' r o z =
-    let w = pushes_reset p room marks room' marks' r o z in
+    → (room marks : List ℕ) (s' : AnnexBReader) (room' marks' : List ℕ) (p : Pushed) → FrameReset s room marks s' room' marks' (Ok p)
+    → (g ++ take p.written room' ≡ joined (nal_units us)) × (e ++ shifted (length g) (take p.marked marks') ≡ ends_from 0 (nal_units us))
+table_pushed leading us a k pushes room marks s' room' marks' p o =
+    let w = pushes_reset pushes room marks s' room' marks' p o in
     let units = ap units_at_reset (take-length (byte_stream leading us)) ∙ table_exact leading us a k in
     (w.bytes_are ∙ ap joined units, w.ends_are ∙ ap (ends_from 0) units)

@@ -1,7 +1,7 @@
 -- THERE IS A WAY: resets that are done, and calls of one reader that take any streams whole.
 use Prim.Native.Nat.{ℕ, ◌≤◌, zero-le}
 use native.Mathlib.Omega.{arith}
-use mathlib.Core.Path.{refl, ap, ap₂, sym, subst}
+use mathlib.Core.Path.{◌≡◌, refl, ap, ap₂, sym, subst}
 use mathlib.Core.List.{List, [], ◌∷◌, ◌++◌}
 use lib.Dec.{ltb}
 use lib.ListN.{length, take, drop}
@@ -9,12 +9,13 @@ use lib.Seq.{take-length}
 use borrow.Author.Tests.{le-ltb}
 use Rattle.desk.specs.Push.{Pushes, shifted, Seen}
 use Rattle.desk.specs.Room.{with_front}
+use Rattle.desk.specs.declared.push.Pushed.{Pushed}
 use Rattle.desk.proofs.Cutting.{taken_front, pushed_few}
-use Rattle.desk.proofs.Entering.{entry_done}
+use Rattle.desk.proofs.Entering.{entry_done, entry_few}
 use Rattle.desk.proofs.Lists.{trail_few}
+use Rattle.desk.proofs.Running.{gave_done, as_result}
 use Rattle.desk.proofs.Ways.{an_outcome}
 use Rattle.annexb.specs.declared.AnnexBReader.{AnnexBReader}
-use Rattle.annexb.specs.declared.Pushed.{Pushed}
 use Rattle.annexb.specs.Rule.{frame}
 use Rattle.annexb.specs.Seen.{new}
 use Rattle.annexb.specs.Step.{stepping}
@@ -24,20 +25,21 @@ use Rattle.annexb.specs.Calls.{Span, Calls, CallsWay}
 use Rattle.annexb.proofs.Calling.{calls_rule}
 use Rattle.annexb.proofs.Completing.{reset_done}
 use Rattle.annexb.proofs.Following.{follows}
-use Rattle.annexb.proofs.Laws.{pushes_rule, framing, frame_way}
+use Rattle.annexb.proofs.Laws.{none_forbidden, pushes_rule, framing, frame_way}
 
 -- ROOM FOR TWO ZEROS AND A MARK is enough for every reset
 pub reset_way : (s : AnnexBReader) → s.zeros ≤ 2 → ResetWay s
 reset_way s k =
     let a = reset_answer s 2 1 in
+    let done : a.number ≡ 0 =
+    reset_done s 2 1 (entry_done (0 ∷ 2 ∷ 1 ∷ []) (ltb 2 s.zeros) (zero-le, (omega arith, (omega arith, tt))) (le-ltb 2 s.zeros k)) k
+    (omega arith) in
     record {
+      after = a.after;
       room' = with_front (0 ∷ 0 ∷ []) a.bytes;
       marks' = with_front (0 ∷ []) a.marks;
-      closed = record { number = a.number; taken = a.taken; written = length a.bytes; marked = length a.marks; state = a.after };
-      reset = an_outcome a (0 ∷ 0 ∷ []) (0 ∷ []);
-      done =
-          reset_done s 2 1 (entry_done (0 ∷ 2 ∷ 1 ∷ []) (ltb 2 s.zeros) (zero-le, (omega arith, (omega arith, tt))) (le-ltb 2 s.zeros k)) k
-          (omega arith);
+      closed = record { taken = a.taken; written = length a.bytes; marked = length a.marks };
+      reset = gave_done (an_outcome a (0 ∷ 0 ∷ []) (0 ∷ [])) done;
     }
 
 -- a state that pushes left is not bad
@@ -54,10 +56,12 @@ as_calls {spans} c {stream} (Pushes.one_more {n} {s} {given} {ends} p k out mark
     let entry = entering s (length chunk) (length out) (length marks) in
     let few : taken ≤ length chunk =
     omega (arith, o.taken_is, pushed_few (follows new zero-le) (take n stream) chunk s entry (length out) (length marks) st) in
-    let r : Pushed = record { number = number; taken = taken; written = wrote; marked = marked_n; state = s' } in
+    let r = as_result none_forbidden s chunk (entry_few (length chunk ∷ length out ∷ length marks ∷ []) (ltb 2 s.zeros)) o in
+    let call = Calls.pushed (as_calls c p) chunk out marks s' out' marks' r.0 r.1 in
     subst (λ (h : List ℕ). Calls spans h s' (given ++ take wrote out') (ends ++ shifted (length given) (take marked_n marks')))
     (taken_front n k taken stream few)
-    (Calls.pushed (as_calls c p) chunk out marks out' marks' r o)
+    (subst (λ (q : Pushed). Calls spans (take n stream ++ take q.taken chunk) s' (given ++ take q.written out')
+    (ends ++ shifted (length given) (take q.marked marks'))) r.2 call)
 
 -- a reader that a reset left is new
 fresh : {spans : List Span} {s : AnnexBReader} → Calls spans [] s [] [] → Calls spans [] new [] []
@@ -71,7 +75,7 @@ calls_way (t ∷ ts) =
     let w = frame_way new zero-le t in
     let all = as_calls before.calls w.pushes in
     let z = reset_way w.state (pushes_good w.pushes) in
-    let calls = Calls.reset_done all (0 ∷ 0 ∷ []) (0 ∷ []) z.room' z.marks' z.closed z.reset z.done in
+    let calls = Calls.reset_done all (0 ∷ 0 ∷ []) (0 ∷ []) z.after z.room' z.marks' z.closed z.reset in
     record {
       spans = _;
       calls = fresh calls;

@@ -1,9 +1,11 @@
 -- WHAT EACH CALL ANSWERS, for all that goes in; a push, its answer and what ties them to the code are the desk's.
-use Rattle.std.specs.Prelude.{ℕ, cond, ◌&&◌, List, [], ◌∷◌, leb, ltb, eqb, length, replicate}
+use Rattle.std.specs.Prelude.{ℕ, cond, ◌&&◌, List, [], ◌∷◌, Result, leb, ltb, eqb, length, replicate}
 use Rattle.desk.specs.Numbers.{done, no_room, entry_of}
-use Rattle.desk.specs.Push.{Answer, answers, push_by, Gives}
+use Rattle.desk.specs.Push.{Answer, answers, push_by}
+use Rattle.desk.specs.Steps.{Gave}
+use Rattle.desk.specs.declared.push.Pushed.{Pushed}
+use Rattle.desk.specs.declared.refusal.Refusal.{Refusal}
 use Rattle.annexb.specs.declared.AnnexBReader.{AnnexBReader}
-use Rattle.annexb.specs.declared.Pushed.{Pushed}
 use Rattle.annexb.specs.Seen.{new}
 use Rattle.annexb.specs.Step.{stepping}
 
@@ -27,20 +29,9 @@ closing s w m =
 unfoldable pub reset_answer : AnnexBReader → ℕ → ℕ → Answer AnnexBReader
 reset_answer s w m = cond (eqb (entering s 0 w m) done) (closing s w m) (answers (entering s 0 w m) s)
 
--- an outcome is the answer: what is returned, and all of both rooms at exit
-abbrev pub Gave : Answer AnnexBReader → List ℕ → List ℕ → List ℕ → List ℕ → Pushed → Type 0
-Gave a room marks room' marks' r = Gives a room marks room' marks' r.number r.taken r.written r.marked r.state
+-- THE CONTRACTS, of a push and of a reset: what is returned, the state and all of both rooms at exit are the answer's
+abbrev pub FramePush : AnnexBReader → List ℕ → List ℕ → List ℕ → AnnexBReader → List ℕ → List ℕ → Result Pushed Refusal → Type 0
+FramePush s chunk room marks s' room' marks' r = Gave (push_answer s chunk (length room) (length marks)) room marks s' room' marks' r
 
--- THE CONTRACTS, of a push and of a reset
-abbrev pub FramePush : AnnexBReader → List ℕ → List ℕ → List ℕ → List ℕ → List ℕ → Pushed → Type 0
-FramePush s chunk room marks room' marks' r = Gave (push_answer s chunk (length room) (length marks)) room marks room' marks' r
-
-abbrev pub FrameReset : AnnexBReader → List ℕ → List ℕ → List ℕ → List ℕ → Pushed → Type 0
-FrameReset s room marks room' marks' r = Gave (reset_answer s (length room) (length marks)) room marks room' marks' r
-
--- a call that is done, and a number alone, as the code returns them
-abbrev pub gave : ℕ → ℕ → ℕ → AnnexBReader → Pushed
-gave taken written marked s = record { number = done; taken = taken; written = written; marked = marked; state = s }
-
-abbrev pub alone : ℕ → AnnexBReader → Pushed
-alone n s = record { number = n; taken = 0; written = 0; marked = 0; state = s }
+abbrev pub FrameReset : AnnexBReader → List ℕ → List ℕ → AnnexBReader → List ℕ → List ℕ → Result Pushed Refusal → Type 0
+FrameReset s room marks s' room' marks' r = Gave (reset_answer s (length room) (length marks)) room marks s' room' marks' r

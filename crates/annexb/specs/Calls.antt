@@ -1,8 +1,10 @@
 -- ANY CALLS OF ONE READER, AND WHAT THEY COME TO.
-use Rattle.std.specs.Prelude.{ℕ, ◌≡◌, List, [], ◌∷◌, ◌++◌, map, length, take}
+use Rattle.std.specs.Prelude.{ℕ, ◌≡◌, List, [], ◌∷◌, ◌++◌, map, Result, Ok, Err, length, take}
 use Rattle.desk.specs.Push.{Answer, seen, shifted}
+use Rattle.desk.specs.Steps.{pushed_of}
+use Rattle.desk.specs.declared.push.Pushed.{Pushed}
+use Rattle.desk.specs.declared.refusal.Refusal.{Refusal}
 use Rattle.annexb.specs.declared.AnnexBReader.{AnnexBReader}
-use Rattle.annexb.specs.declared.Pushed.{Pushed}
 use Rattle.annexb.specs.Rule.{Frame, given_of, ends_of, units_of, joined, ends_from, units_at_reset}
 use Rattle.annexb.specs.Seen.{new, rule}
 use Rattle.annexb.specs.Answer.{FramePush, FrameReset}
@@ -18,19 +20,21 @@ span h g e = record { taken = h; bytes = g; ends = e }
 
 -- After any calls from a new reader: the spans that a reset closed, the latest first, and of the span since: the bytes taken, the state, the joined
 -- bytes and the ends.
--- Each call goes on from the state that the last one returned, and is known by its contract alone. A push may be lent any chunk, and every call any
+-- Each call goes on from the state that the last one left, and is known by its contract alone. A push may be lent any chunk, and every call any
 -- rooms.
 pub data Calls : List Span → List ℕ → AnnexBReader → List ℕ → List ℕ → Type 0 where
   none_yet : Calls [] [] new [] []
   pushed : {spans : List Span} {h : List ℕ} {s : AnnexBReader} {g e : List ℕ} → Calls spans h s g e
-      → (chunk room marks room' marks' : List ℕ) (r : Pushed) → FramePush s chunk room marks room' marks' r
-      → Calls spans (h ++ take r.taken chunk) r.state (g ++ take r.written room') (e ++ shifted (length g) (take r.marked marks'))
+      → (chunk room marks : List ℕ) (s' : AnnexBReader) (room' marks' : List ℕ) (r : Result Pushed Refusal)
+      → FramePush s chunk room marks s' room' marks' r
+      → Calls spans (h ++ take (pushed_of r).taken chunk) s' (g ++ take (pushed_of r).written room')
+      (e ++ shifted (length g) (take (pushed_of r).marked marks'))
   reset_done : {spans : List Span} {h : List ℕ} {s : AnnexBReader} {g e : List ℕ} → Calls spans h s g e
-      → (room marks room' marks' : List ℕ) (r : Pushed) → FrameReset s room marks room' marks' r → r.number ≡ 0
-      → Calls (span h (g ++ take r.written room') (e ++ shifted (length g) (take r.marked marks')) ∷ spans) [] r.state [] []
+      → (room marks : List ℕ) (s' : AnnexBReader) (room' marks' : List ℕ) (p : Pushed) → FrameReset s room marks s' room' marks' (Ok p)
+      → Calls (span h (g ++ take p.written room') (e ++ shifted (length g) (take p.marked marks')) ∷ spans) [] s' [] []
   reset_refused : {spans : List Span} {h : List ℕ} {s : AnnexBReader} {g e : List ℕ} → Calls spans h s g e
-      → (room marks room' marks' : List ℕ) (r : Pushed) → FrameReset s room marks room' marks' r → (r.number ≡ 0 → ⊥)
-      → Calls spans h r.state (g ++ take r.written room') (e ++ shifted (length g) (take r.marked marks'))
+      → (room marks : List ℕ) (s' : AnnexBReader) (room' marks' : List ℕ) (why : Refusal) → FrameReset s room marks s' room' marks' (Err why)
+      → Calls spans h s' g e
 
 -- a reset of what is framed as f completes it: with what it hands out, all units are given, the open one with its held zeros, and a new state is left
 pub record Completes (f : Frame) (a : Answer AnnexBReader) : Type 0 where

@@ -1,21 +1,24 @@
 -- WHAT IS PROMISED OF FRAMING, over any trace of pushes that each meet their contract.
-use Rattle.std.specs.Prelude.{ℕ, ◌≤◌, ◌≡◌, List, [], ◌∷◌, length, take}
+use Rattle.std.specs.Prelude.{ℕ, ◌≤◌, ◌≡◌, List, [], ◌∷◌, Result, Ok, length, take}
 use Rattle.desk.specs.Numbers.{most}
 use Rattle.desk.specs.Push.{came_to, Way}
+use Rattle.desk.specs.Steps.{Gave}
+use Rattle.desk.specs.declared.push.Pushed.{Pushed}
+use Rattle.desk.specs.declared.refusal.Refusal.{Refusal}
 use Rattle.annexb.specs.declared.AnnexBReader.{AnnexBReader}
-use Rattle.annexb.specs.declared.Pushed.{Pushed}
 use Rattle.annexb.specs.Rule.{given, ends}
 use Rattle.annexb.specs.Seen.{new, state_of}
 use Rattle.annexb.specs.Step.{stepping}
-use Rattle.annexb.specs.Answer.{entering, Gave, FramePush, FrameReset}
+use Rattle.annexb.specs.Answer.{entering, FramePush, FrameReset}
 
 -- ONE PUSH from the state s₀, lent those n bytes and rooms for what was given, within the limit: it takes them all, and leaves the same state, bytes
 -- and ends
 abbrev pub FramesAtOnce : AnnexBReader → List ℕ → ℕ → AnnexBReader → List ℕ → List ℕ → Type 0
 FramesAtOnce s₀ stream n s g e =
-    (room marks room' marks' : List ℕ) (r : Pushed) → FramePush s₀ (take n stream) room marks room' marks' r
+    (room marks : List ℕ) (s' : AnnexBReader) (room' marks' : List ℕ) (r : Result Pushed Refusal)
+    → FramePush s₀ (take n stream) room marks s' room' marks' r
     → n ≤ most → length room ≤ most → length marks ≤ most → length g ≤ length room → length e ≤ length marks
-    → Gave (came_to n s g e) room marks room' marks' r
+    → Gave (came_to n s g e) room marks s' room' marks' r
 
 -- after some pushes of a stream from a new reader, n bytes taken: joined bytes and ends are those that the rule gives for these bytes, the state is
 -- fixed by them, and one push comes to the same
@@ -32,8 +35,8 @@ FrameWay s₀ stream = Way stepping entering s₀ stream (length stream) 3 1
 
 -- a reset that is done, in room for two zeros and a mark
 pub record ResetWay (s : AnnexBReader) : Type 0 where
+  pub after : AnnexBReader
   pub room' : List ℕ
   pub marks' : List ℕ
   pub closed : Pushed
-  pub reset : FrameReset s (0 ∷ 0 ∷ []) (0 ∷ []) room' marks' closed
-  pub done : closed.number ≡ 0
+  pub reset : FrameReset s (0 ∷ 0 ∷ []) (0 ∷ []) after room' marks' (Ok closed)

@@ -1,11 +1,10 @@
--- The reader's step at one byte: the shape of the code.
-use Rattle.std.specs.Prelude.{ℕ, zero, suc, Bool, true, false, cond, ◌&&◌, ◌≡◌, List, [], ◌∷◌, ◌++◌, length, replicate}
+-- The reader's step at one byte.
+use Rattle.std.specs.Prelude.{ℕ, true, false, cond, ◌&&◌, [], ◌∷◌, ◌++◌, replicate}
 use Rattle.std.proofs.Math.Option.{some}
 use Rattle.desk.specs.Search.{is0, is1, up_to1}
 use Rattle.desk.specs.Zeros.{two, zeros_after}
 use Rattle.desk.specs.Push.{Out, Next}
 use Rattle.annexb.specs.declared.AnnexBReader.{AnnexBReader}
-use Rattle.annexb.specs.declared.Stepped.{Stepped}
 use Rattle.annexb.specs.Seen.{at}
 
 -- outside a unit 01 after two zeros starts one; nothing is released
@@ -28,19 +27,3 @@ step s b = cond s.in_unit (in_step s.zeros b) (out_step s.zeros b)
 -- no byte is forbidden
 abbrev pub stepping : Next AnnexBReader
 stepping s b = some (step s b)
-
--- what a byte releases, by their number: zeros, and the byte last
-abbrev pub released_bytes : ℕ → ℕ → List ℕ
-released_bytes zero b = []
-released_bytes (suc n) b = replicate n 0 ++ b ∷ []
-
--- a step's answer, as the code makes it
-abbrev pub stepped_to : Bool → ℕ → ℕ → ℕ → Stepped
-stepped_to o z count ends = record { after = at o z; count = count; ends = ends }
-
--- what the code's step answers of it
-pub record StepsAs (o : Out AnnexBReader) (b : ℕ) (r : Stepped) : Type 0 where
-  pub after_is : r.after ≡ o.after
-  pub count_is : r.count ≡ length o.bytes
-  pub bytes_are : released_bytes r.count b ≡ o.bytes
-  pub ends_is : r.ends ≡ cond o.mark 1 0

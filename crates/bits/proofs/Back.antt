@@ -1,108 +1,121 @@
--- Each contract is an equation, so that it leaves one outcome. Here: the answer that a call gives stands for what it was asked.
-use mathlib.Core.Path.{◌≡◌, refl, sym, ap, ap₂, ◌∙◌}
-use mathlib.Core.List.{List}
-use mathlib.Core.Bool.{Bool, true, false}
+-- What a contract leaves: the answer that a call gives stands for what it was asked, and there is one outcome.
+use Rattle.std.specs.Prelude.{ℕ, ◌≤◌, ◌<◌, ◌≡◌, List, Result, Ok, Err}
+use mathlib.Core.Path.{refl, sym, ap, ap₂, ◌∙◌}
 use mathlib.Core.Option.{Option, none, some}
-use Prim.Native.Nat.{ℕ}
-use lib.IntN.{ℤ}
-use Rattle.bits.specs.Rule.{signed_of}
+use Rattle.desk.specs.Refusing.{number_of, answered}
+use Rattle.desk.specs.declared.refusal.Refusal.{Refusal}
+use Rattle.desk.proofs.Refusing.{number_one, number_every}
 use Rattle.bits.specs.Step.{Wrote, wrote, kept}
-use Rattle.bits.specs.Answer.{Ans, got, no, Told, told, denied, as_bool, as_signed, Reads, ReadsBit, Moves, Writes}
-use Rattle.bits.specs.Answer.{answer, bit_answer, signed_answer, moved_answer, more_answer, aligned_answer, mapped_answer, outcome}
-use Rattle.bits.specs.Answer.{back, bit_back, signed_back, moved_back, more_back, aligned_back, mapped_back, put_back, room_back}
+use Rattle.bits.specs.Answer.{Ans, got, no, denied, reader_at, answer, told_by, told_of, number, told_number, reader_back, Reads}
+use Rattle.bits.specs.Answer.{aligned_answer, aligned_back, outcome, wrote_told, wrote_number, writer_back, room_back, Writes}
 use Rattle.bits.specs.declared.BitReader.{BitReader}
-use Rattle.bits.specs.declared.Bits.{Bits}
-use Rattle.bits.specs.declared.Bits.TheVariants.{Value, Refused}
-use Rattle.bits.specs.declared.Bit.{Bit}
-use Rattle.bits.specs.declared.Bit.TheVariants.{Value as BValue, Refused as BRefused}
-use Rattle.bits.specs.declared.Signed.{Signed}
-use Rattle.bits.specs.declared.Signed.TheVariants.{Value as SValue, Refused as SRefused}
-use Rattle.bits.specs.declared.Moved.{Moved}
 use Rattle.bits.specs.declared.BitWriter.{BitWriter}
-use Rattle.bits.specs.declared.Put.{Put}
-use Rattle.bits.specs.declared.Put.TheVariants.{Done, Refused as PRefused}
-use lib.Dec.{eqb}
+
+-- ---- what a call returns is fixed by what it tells, and its number is that of what it tells
+
+pub told_one : {A : Type 0} (r r' : Result A Refusal) → told_by r ≡ told_by r' → r ≡ r'
+told_one (Ok a) (Ok b) q = let e : a ≡ b = cc in ap (λ x. Ok x) e
+told_one (Ok a) (Err f) q = cc
+told_one (Err e) (Ok b) q = cc
+told_one (Err e) (Err f) q = let n : number_of e ≡ number_of f = cc in ap (λ x. Err x) (number_one n)
+
+pub told_is_number : {A : Type 0} (r : Result A Refusal) → answered r ≡ told_number (told_by r)
+told_is_number (Ok a) = refl
+told_is_number (Err e) = refl
 
 -- ---- reading
 
-module _ (from : BitReader) where
-  pub answer_back : (a : Ans ℕ) → answer (back from a) ≡ a
-  answer_back (got v q) = refl
-  answer_back (no n) = refl
+of_told : {A : Type 0} (a : Ans A) → told_number (told_of a) ≡ number a
+of_told (got v q) = refl
+of_told (no n) = refl
 
-  pub bit_answer_back : (a : Ans Bool) → bit_answer (bit_back from a) ≡ a
-  bit_answer_back (got v q) = refl
-  bit_answer_back (no n) = refl
+answer_of : {A : Type 0} (from after : BitReader) (r : Result A Refusal) (a : Ans A) → told_by r ≡ told_of a → after ≡ reader_back from a
+    → answer r after ≡ a
+answer_of {A} from after (Ok v) (got w q) t k = let e : v ≡ w = cc in ap₂ (λ (x : A) (s : BitReader). got x s.at.0) e k
+answer_of from after (Ok v) (no n) t k = cc
+answer_of from after (Err e) (got w q) t k = cc
+answer_of from after (Err e) (no n) t k = let i : number_of e ≡ n = cc in ap (λ (x : ℕ). no x) i
 
-  pub signed_answer_back : (a : Ans ℤ) → signed_answer (signed_back from a) ≡ a
-  signed_answer_back (got v q) = refl
-  signed_answer_back (no n) = refl
+-- a number that an answer refuses with is of the table
+abbrev pub InTable : {A : Type 0} → Ans A → Type 0
+InTable (got v q) = Unit
+InTable (no n) = (0 < n) × (n ≤ 18)
 
-  pub moved_answer_back : (a : Ans Unit) → moved_answer (moved_back from a) ≡ a
-  moved_answer_back (got v q) = refl
-  moved_answer_back (no n) = refl
+module _ {A : Type 0} {from : BitReader} where
+  pub answer_back : {after : BitReader} {r : Result A Refusal} {a : Ans A} → Reads from after r a → answer r after ≡ a
+  answer_back {after} {r} {a} h = answer_of from after r a h.answers h.cursor
 
-pub more_answer_back : (a : Told Bool) → more_answer (more_back a) ≡ a
-more_answer_back (told true) = refl
-more_answer_back (told false) = refl
-more_answer_back (denied n) = refl
+  -- so, of a call that met its contract, and whose result is known
+  pub read_is : {after : BitReader} {r x : Result A Refusal} {a : Ans A} → Reads from after r a → r ≡ x → a ≡ answer x after
+  read_is {after} h k = sym (answer_back h) ∙ ap (λ (z : Result A Refusal). answer z after) k
+
+  pub refused_stays : {after : BitReader} {r : Result A Refusal} {a : Ans A} {e : Refusal} → Reads from after r a → r ≡ Err e → after ≡ from
+  refused_stays {after} {r} {a} h k = h.cursor ∙ ap (reader_back from) (read_is h k)
+
+  -- two results, and two readers, that meet the contract are one
+  pub read_one : {x y : BitReader} {r r' : Result A Refusal} {a : Ans A} → Reads from x r a → Reads from y r' a → (r ≡ r') × (x ≡ y)
+  read_one {r = r} {r' = r'} p q = (told_one r r' (p.answers ∙ sym q.answers), p.cursor ∙ sym q.cursor)
+
+  pub read_number : {after : BitReader} {r : Result A Refusal} {a : Ans A} → Reads from after r a → answered r ≡ number a
+  read_number {r = r} {a = a} h = told_is_number r ∙ ap told_number h.answers ∙ of_told a
+
+  -- and a call that gives an answer meets the contract
+  pub reads : {after : BitReader} {v : A} {a : Ans A} → a ≡ got v after.at.0 → Reads from after (Ok v) a
+  reads e = record { answers = ap told_of (sym e); cursor = ap (reader_back from) (sym e) }
+
+  pub refuses : {e : Refusal} {a : Ans A} → a ≡ no (number_of e) → Reads from from (Err e) a
+  refuses e = record { answers = ap told_of (sym e); cursor = ap (reader_back from) (sym e) }
+
+  -- and each answer of a value, or of a number of the table, is one that some call gives
+  pub read_some : (a : Ans A) → InTable a → (r : Result A Refusal) × (after : BitReader) × Reads from after r a
+  read_some (got v q) t = (Ok v, reader_at q, reads refl)
+  read_some (no n) t = let e = number_every n t.0 t.1 in (Err e.0, from, refuses (ap (λ (x : ℕ). no x) (sym e.1)))
+
+-- ---- places
 
 pub aligned_answer_back : (a : Option ℕ) → aligned_answer (aligned_back a) ≡ a
 aligned_answer_back (some b) = refl
 aligned_answer_back none = refl
 
-pub mapped_answer_back : (a : Told ℤ) → mapped_answer (mapped_back a) ≡ a
-mapped_answer_back (told z) = refl
-mapped_answer_back (denied n) = refl
-
--- so, of a call that met its contract, and whose answer is known
-module _ (from : BitReader) where
-  pub read_is : (a : Ans ℕ) {r x : Bits} → Reads from r a → r ≡ x → a ≡ answer x
-  read_is a e k = sym (answer_back from a) ∙ ap answer (sym e ∙ k)
-
-  pub bit_is : (a : Ans Bool) {r x : Bit} → ReadsBit from r a → r ≡ x → a ≡ bit_answer x
-  bit_is a e k = sym (bit_answer_back from a) ∙ ap bit_answer (sym e ∙ k)
-
-  pub skip_is : (a : Ans Unit) {r x : Moved} → Moves from r a → r ≡ x → a ≡ moved_answer x
-  skip_is a e k = sym (moved_answer_back from a) ∙ ap moved_answer (sym e ∙ k)
-
--- what `read_bit` and `read_se` make of the answers of `read` and `read_ue`
-
-abbrev to_bit : Bits → Bit
-to_bit (Value v r) = BValue (eqb v 1) r
-to_bit (Refused n r) = BRefused n r
-
-pub bit_back_lem : (from : BitReader) (a : Ans ℕ) {r x : Bits} → Reads from r a → r ≡ x → to_bit x ≡ bit_back from (as_bool a)
-bit_back_lem from (got v q) e k = ap to_bit (sym k ∙ e)
-bit_back_lem from (no n) e k = ap to_bit (sym k ∙ e)
-
-abbrev to_signed : Bits → Signed
-to_signed (Value v r) = SValue (signed_of v) r
-to_signed (Refused n r) = SRefused n r
-
-pub se_back : (from : BitReader) (a : Ans ℕ) {r x : Bits} → Reads from r a → r ≡ x → to_signed x ≡ signed_back from (as_signed a)
-se_back from (got v q) e k = ap to_signed (sym k ∙ e)
-se_back from (no n) e k = ap to_signed (sym k ∙ e)
-
 -- ---- writing
 
-pub outcome_back : (from : BitWriter) (a : Wrote) → outcome (put_back from a) (room_back a) ≡ a
-outcome_back from (wrote st o) = refl
-outcome_back from (kept n o) = refl
+of_wrote : (a : Wrote) → told_number (wrote_told a) ≡ wrote_number a
+of_wrote (wrote st o) = refl
+of_wrote (kept n o) = refl
+
+outcome_of : (from after : BitWriter) (r : Result Unit Refusal) (o : List ℕ) (a : Wrote) → told_by r ≡ wrote_told a → after ≡ writer_back from a
+    → o ≡ room_back a → outcome r after o ≡ a
+outcome_of from after (Ok v) o (wrote st l) t k m = ap₂ (λ (x : BitWriter) (y : List ℕ). wrote x y) k m
+outcome_of from after (Ok v) o (kept n l) t k m = cc
+outcome_of from after (Err e) o (wrote st l) t k m = cc
+outcome_of from after (Err e) o (kept n l) t k m = let i : number_of e ≡ n = cc in ap₂ (λ (x : ℕ) (y : List ℕ). kept x y) i m
+
+abbrev pub WroteInTable : Wrote → Type 0
+WroteInTable (wrote st o) = Unit
+WroteInTable (kept n o) = (0 < n) × (n ≤ 18)
 
 module _ {from : BitWriter} where
-  pub write_answer : {r : Put} {o : List ℕ} {a : Wrote} → Writes from r o a → outcome r o ≡ a
-  write_answer {r} {o} {a} w = ap₂ outcome w.answers w.memory ∙ outcome_back from a
+  pub outcome_back : {after : BitWriter} {r : Result Unit Refusal} {o : List ℕ} {a : Wrote} → Writes from after r o a → outcome r after o ≡ a
+  outcome_back {after} {r} {o} {a} w = outcome_of from after r o a w.answers w.writer w.memory
 
-  pub writes : {st : BitWriter} {o : List ℕ} {a : Wrote} → wrote st o ≡ a → Writes from (Done st) o a
-  writes e = record { answers = ap (put_back from) e; memory = ap room_back e }
+  pub write_number : {after : BitWriter} {r : Result Unit Refusal} {o : List ℕ} {a : Wrote} → Writes from after r o a → answered r ≡ wrote_number a
+  write_number {r = r} {a = a} w = told_is_number r ∙ ap told_number w.answers ∙ of_wrote a
 
-  pub keeps : {n : ℕ} {o : List ℕ} {a : Wrote} → kept n o ≡ a → Writes from (PRefused n from) o a
-  keeps e = record { answers = ap (put_back from) e; memory = ap room_back e }
+  pub writes : {st : BitWriter} {o : List ℕ} {a : Wrote} → wrote st o ≡ a → Writes from st (Ok tt) o a
+  writes e = record { answers = ap wrote_told e; writer = ap (writer_back from) e; memory = ap room_back e }
 
-  pub writes_as : {r : Put} {o : List ℕ} {a b : Wrote} → Writes from r o a → a ≡ b → Writes from r o b
-  writes_as w e = record { answers = w.answers ∙ ap (put_back from) e; memory = w.memory ∙ ap room_back e }
+  pub writes_as : {after : BitWriter} {r : Result Unit Refusal} {o : List ℕ} {a b : Wrote} → Writes from after r o a → a ≡ b → Writes from after r o b
+  writes_as w e =
+      record { answers = w.answers ∙ ap wrote_told e; writer = w.writer ∙ ap (writer_back from) e; memory = w.memory ∙ ap room_back e }
 
-  -- two results, and two rooms, that meet the contract are one
-  pub write_one : {x y : Put} {o o' : List ℕ} {a : Wrote} → Writes from x o a → Writes from y o' a → (x ≡ y) × (o ≡ o')
-  write_one p q = (p.answers ∙ sym q.answers, p.memory ∙ sym q.memory)
+  -- each answer of a writer and a room, or of a number of the table, is one that some call gives
+  pub write_some : (a : Wrote) → WroteInTable a → (r : Result Unit Refusal) × (after : BitWriter) × Writes from after r (room_back a) a
+  write_some (wrote st o) t = (Ok tt, st, writes refl)
+  write_some (kept n o) t =
+      let e = number_every n t.0 t.1 in
+      (Err e.0, from, record { answers = ap (λ (x : ℕ). denied x) e.1; writer = refl; memory = refl })
+
+  -- two results, two writers and two rooms that meet the contract are one
+  pub write_one : {x y : BitWriter} {r r' : Result Unit Refusal} {o o' : List ℕ} {a : Wrote} → Writes from x r o a → Writes from y r' o' a
+      → (r ≡ r') × (x ≡ y) × (o ≡ o')
+  write_one {r = r} {r' = r'} p q = (told_one r r' (p.answers ∙ sym q.answers), p.writer ∙ sym q.writer, p.memory ∙ sym q.memory)

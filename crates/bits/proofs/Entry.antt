@@ -70,8 +70,8 @@ why_entry {s} {p} (past h l) = entry_bad (length s ∷ 0 ∷ 0 ∷ []) (ltb (siz
 
 pub neither : (a b : Bool) → (a || b) ≡ false → (a ≡ false) × (b ≡ false)
 neither false false h = (refl, refl)
-neither false true h = absurd (let z : ◌≡◌ {A = ℕ} 0 1 = cc in omega arith)
-neither true b h = absurd (let z : ◌≡◌ {A = ℕ} 0 1 = cc in omega arith)
+neither false true h = cc
+neither true b h = cc
 
 module _ (len : ℕ) (st : BitWriter) where
   pub good : entry_on len st ≡ 0 → Good len st

@@ -4,7 +4,7 @@ use mathlib.Core.List.{List}
 use mathlib.Core.Bool.{Bool, true, false, cond}
 use mathlib.Core.Option.{Option, none, some}
 use mathlib.Core.Logic.{dite}
-use Prim.Native.Nat.{ℕ, zero, suc, ◌+◌, ◌-◌, ◌<◌}
+use Prim.Native.Nat.{ℕ, zero, suc, ◌+◌, ◌-◌, ◌<◌, ◌≤◌}
 use native.Mathlib.Decide.{dec_lt}
 use native.Mathlib.Omega.{arith}
 use borrow.Author.Tests.{eqb-true, eqb-false}
@@ -29,17 +29,17 @@ module _ (s : List ℕ) (p : ℕ) where
       go : (o : Option ℕ) (b : Bool) → first_one s p n ≡ o → eqb (bit_at s (p + n)) 1 ≡ b → (first_one s p n ≡ none → NoOne s p n)
           → or_else o (cond b (some (p + n)) none) ≡ none → NoOne s p (suc n)
       go none false f e ih k = no_more n (ih f) (eqb-false (bit_at s (p + n)) 1 e)
-      go none true f e ih k = absurd (let z : ◌≡◌ {A = ℕ} 0 1 = cc in omega arith)
-      go (some x) b f e ih k = absurd (let z : ◌≡◌ {A = ℕ} 0 1 = cc in omega arith)
+      go none true f e ih k = cc
+      go (some x) b f e ih k = cc
 
   pub first_where : (n q : ℕ) → first_one s p n ≡ some q → IsFirst s p n q
   unfolding first_one
-  first_where zero q h = absurd (let z : ◌≡◌ {A = ℕ} 0 1 = cc in omega arith)
+  first_where zero q h = cc
   first_where (suc n) q h = go (first_one s p n) (eqb (bit_at s (p + n)) 1) refl refl (first_where n q) h
     where
       go : (o : Option ℕ) (b : Bool) → first_one s p n ≡ o → eqb (bit_at s (p + n)) 1 ≡ b → (first_one s p n ≡ some q → IsFirst s p n q)
           → or_else o (cond b (some (p + n)) none) ≡ some q → IsFirst s p (suc n) q
-      go none false f e ih k = absurd (let z : ◌≡◌ {A = ℕ} 0 1 = cc in omega arith)
+      go none false f e ih k = cc
       go none true f e ih k =
           let at : p + n ≡ q = cc in
           record {
@@ -53,6 +53,9 @@ module _ (s : List ℕ) (p : ℕ) where
           let r = ih (f ∙ ap {B = Option ℕ} some xq) in
           let w = r.within in
           record { from = r.from; within = omega arith; one = r.one; zeros = r.zeros }
+
+  pub first_from : (n q : ℕ) → some q ≡ first_one s p n → p ≤ q
+  first_from n q e = (first_where n q (sym e)).from
 
   -- what is the first one is found
   pub first_there : (n q : ℕ) → IsFirst s p n q → first_one s p n ≡ some q
@@ -86,11 +89,11 @@ module _ (s : List ℕ) (p : ℕ) where
       go : (b : Bool) → eqb (bit_at s (p + n)) 1 ≡ b → (last_one s p n ≡ none → NoOne s p n) → cond b (some (p + n)) (last_one s p n) ≡ none
           → NoOne s p (suc n)
       go false e ih k = no_more n (ih k) (eqb-false (bit_at s (p + n)) 1 e)
-      go true e ih k = absurd (let z : ◌≡◌ {A = ℕ} 0 1 = cc in omega arith)
+      go true e ih k = cc
 
   pub last_where : (n q : ℕ) → last_one s p n ≡ some q → IsLast s p n q
   unfolding last_one
-  last_where zero q h = absurd (let z : ◌≡◌ {A = ℕ} 0 1 = cc in omega arith)
+  last_where zero q h = cc
   last_where (suc n) q h = go (eqb (bit_at s (p + n)) 1) refl (last_where n q) h
     where
       go : (b : Bool) → eqb (bit_at s (p + n)) 1 ≡ b → (last_one s p n ≡ some q → IsLast s p n q) → cond b (some (p + n)) (last_one s p n) ≡ some q

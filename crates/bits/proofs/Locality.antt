@@ -1,12 +1,12 @@
 -- A read depends on the bits read alone, and so does a chain of reads.
 use mathlib.Core.Path.{◌≡◌, refl, sym, ap, ap₂, ◌∙◌, subst}
-use mathlib.Core.List.{List, [], ◌∷◌, ◌++◌}
+use mathlib.Core.List.{List, ◌++◌}
 use mathlib.Core.Bool.{Bool, true, false, cond}
-use Prim.Native.Nat.{ℕ, zero, suc, ◌+◌, ◌-◌, ◌≤◌}
-use native.Mathlib.Nat.{add-zero, add-suc}
+use Prim.Native.Nat.{ℕ, ◌+◌, ◌-◌, ◌≤◌}
 use native.Mathlib.Omega.{arith}
 use lib.ListN.{length, take, drop, length-append, length-drop}
-use lib.Seq.{take-nil, take-take, drop-drop, take-append-le, drop-append-le, drop-append-add}
+use lib.Seq.{take-take, drop-drop, take-append-le, drop-append-le, drop-append-add}
+use Rattle.std.proofs.lemmas.List.{drop-take}
 use Rattle.desk.specs.Numbers.{most}
 use Rattle.bits.specs.Rule.{size, bits, Stands}
 use Rattle.bits.specs.Answer.{Ans, got, no, and_then, read_bits, read_bit, read_ue, read_se, skipped}
@@ -17,9 +17,7 @@ use Rattle.bits.proofs.Reading.{bits_codes, bits_width, bit_codes, ue_codes, se_
 -- ---- parts of the same bits
 
 drop_take : {A : Type 0} (m n : ℕ) (l : List A) → drop m (take (n + m) l) ≡ take n (drop m l)
-drop_take zero n l = ap (λ (k : ℕ). take k l) (add-zero n)
-drop_take (suc m) n [] = rw add-suc (sym (take-nil n))
-drop_take (suc m) n (x ∷ l) = rw add-suc (drop_take m n l)
+drop_take m n l = ap (λ (k : ℕ). drop m (take k l)) (omega arith) ∙ drop-take m n l
 
 module _ (s : List ℕ) (p : ℕ) (t : List ℕ) (p' : ℕ) where
   pub same_front : (m n : ℕ) → m ≤ n → SameBits s p t p' n → SameBits s p t p' m
@@ -125,9 +123,9 @@ give_local {A} a =
 pub refuse_local : {A : Type 0} (k : ℕ) → Local {A = A} (λ s p. no k)
 refuse_local {A} k =
     record {
-      grows = λ s p a q e. absurd (let z : ◌≡◌ {A = ℕ} 0 1 = cc in omega arith);
-      within = λ s p a q e. absurd (let z : ◌≡◌ {A = ℕ} 0 1 = cc in omega arith);
-      again = λ s p a q t p' e. absurd (let z : ◌≡◌ {A = ℕ} 0 1 = cc in omega arith);
+      grows = λ s p a q e. cc;
+      within = λ s p a q e. cc;
+      again = λ s p a q t p' e. cc;
     }
 
 pub cond_local : {A : Type 0} {f g : List ℕ → ℕ → Ans A} (b : Bool) → Local f → Local g → Local (λ s p. cond b (f s p) (g s p))
@@ -144,14 +142,14 @@ then_local {A} {B} {f} {g} l m = record { grows = grows; within = within; again 
       where
         go : (x : Ans A) → f s p ≡ x → and_then x (λ a q. g a s q) ≡ got b r → p ≤ r
         go (got a q) h k = omega (arith, l.grows s p a q h, (m a).grows s q b r k)
-        go (no n) h k = absurd (let z : ◌≡◌ {A = ℕ} 0 1 = cc in omega arith)
+        go (no n) h k = cc
 
     within : (s : List ℕ) (p : ℕ) (b : B) (r : ℕ) → and_then (f s p) (λ a q. g a s q) ≡ got b r → p ≤ size s → r ≤ size s
     within s p b r e w = go (f s p) refl e
       where
         go : (x : Ans A) → f s p ≡ x → and_then x (λ a q. g a s q) ≡ got b r → r ≤ size s
         go (got a q) h k = (m a).within s q b r k (l.within s p a q h w)
-        go (no n) h k = absurd (let z : ◌≡◌ {A = ℕ} 0 1 = cc in omega arith)
+        go (no n) h k = cc
 
     again : (s : List ℕ) (p : ℕ) (b : B) (r : ℕ) (t : List ℕ) (p' : ℕ) → and_then (f s p) (λ a q. g a s q) ≡ got b r → SameBits s p t p' (r - p)
         → and_then (f t p') (λ a q. g a t q) ≡ got b (p' + (r - p))
@@ -167,4 +165,4 @@ then_local {A} {B} {f} {g} l m = record { grows = grows; within = within; again 
             let rest = subst (λ (i : ℕ). SameBits s i t (p' + (q - p)) (r - q)) at
             (same_rest s p t p' (q - p) (r - q) (subst (SameBits s p t p') cut w)) in
             simp one ((m a).again s q b r t (p' + (q - p)) k rest ∙ ap (λ (i : ℕ). got b i) (omega arith))
-        go (no n) h k = absurd (let z : ◌≡◌ {A = ℕ} 0 1 = cc in omega arith)
+        go (no n) h k = cc

@@ -39,8 +39,8 @@ bit_list b h = let e : b % 2 ≡ b = omega arith in rw e
 
 zeros_one : (m k : ℕ) (a b : List ℕ) → replicate m 0 ++ (1 ∷ a) ≡ replicate k 0 ++ (1 ∷ b) → (m ≡ k) × (a ≡ b)
 zeros_one zero zero a b e = (refl, (cc))
-zeros_one zero (suc k) a b e = absurd (let z : ◌≡◌ {A = ℕ} 0 1 = cc in omega arith)
-zeros_one (suc m) zero a b e = absurd (let z : ◌≡◌ {A = ℕ} 0 1 = cc in omega arith)
+zeros_one zero (suc k) a b e = cc
+zeros_one (suc m) zero a b e = cc
 zeros_one (suc m) (suc k) a b e =
     let f : replicate m 0 ++ (1 ∷ a) ≡ replicate k 0 ++ (1 ∷ b) = cc in
     let r = zeros_one m k a b f in

@@ -115,7 +115,8 @@ ue_from_lem s p g (some q) e =
 ue_mean : (s : List ℕ) (p : ℕ) → UeMean s p (read_ue s p)
 unfolding read_ue
 ue_mean s p =
-    unless_by (UeMean s p) no (entry_at s p) _ (λ k e. ue_entry (entry_why s p k e)) (λ e. ue_from_lem s p (entered s p e) (first_one s p (size s - p)) refl)
+    unless_by (UeMean s p) no (entry_at s p) _ (λ k e. ue_entry (entry_why s p k e))
+    (λ e. ue_from_lem s p (entered s p e) (first_one s p (size s - p)) refl)
 
 -- why ue(v) is refused
 pub ue_refused : (s : List ℕ) (p k : ℕ) → read_ue s p ≡ no k → WhyUe s p k
@@ -164,7 +165,7 @@ se_took s p z q e = go (read_ue s p) refl e
           stands = subst (λ (i : ℕ). Stands s p (ue_code i)) (sym u) t.stands;
           stops = qr ∙ t.stops ∙ ap (λ (i : ℕ). p + length (ue_code i)) (sym u);
         }
-    go (no n) f h = absurd (let x : ◌≡◌ {A = ℕ} 0 1 = cc in omega arith)
+    go (no n) f h = cc
 
 se_give : (s : List ℕ) (p : ℕ) (z : ℤ) → Entered s p → SeRange z → Stands s p (se_code z) → read_se s p ≡ got z (p + length (se_code z))
 unfolding read_se
@@ -179,7 +180,7 @@ unfolding read_se
 se_refused s p k e = go (read_ue s p) refl e
   where
     go : (a : Ans ℕ) → read_ue s p ≡ a → as_signed a ≡ no k → WhyUe s p k
-    go (got v r) f h = absurd (let x : ◌≡◌ {A = ℕ} 0 1 = cc in omega arith)
+    go (got v r) f h = cc
     go (no n) f h = let nk : n ≡ k = cc in subst (WhyUe s p) nk (ue_refused s p n f)
 
 -- ---- one bit
@@ -204,7 +205,7 @@ bit_took s p b q e = go (read_bits s p 1) refl e
           stands = subst (Stands s p) code t.stands;
           stops = sym qr ∙ t.stops ∙ ap (λ (c : List ℕ). p + length c) code;
         }
-    go (no n) f h = absurd (let x : ◌≡◌ {A = ℕ} 0 1 = cc in omega arith)
+    go (no n) f h = cc
 
 bit_give : (s : List ℕ) (p : ℕ) (b : Bool) → Entered s p → AnyBit b → Stands s p (bit_code b) → read_bit s p ≡ got b (p + length (bit_code b))
 unfolding read_bit
@@ -221,7 +222,7 @@ unfolding read_bit
 bit_refused s p k e = go (read_bits s p 1) refl e
   where
     go : (a : Ans ℕ) → read_bits s p 1 ≡ a → as_bool a ≡ no k → WhyBits s p 1 k
-    go (got v r) f h = absurd (let x : ◌≡◌ {A = ℕ} 0 1 = cc in omega arith)
+    go (got v r) f h = cc
     go (no n) f h = let nk : n ≡ k = cc in subst (WhyBits s p 1) nk (bits_refused s p 1 n f)
 
 -- ---- a skip

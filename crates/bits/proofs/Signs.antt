@@ -1,42 +1,19 @@
 -- Signed numbers of 32 bits.
-use mathlib.Core.Path.{◌≡◌, refl, ap, ◌∙◌}
+use mathlib.Core.Path.{◌≡◌, refl}
 use mathlib.Core.Bool.{true, false}
-use borrow.Author.Tests.{ltb-true, ltb-false, eq-eqb, ne_eqb, le-leb, lt-leb}
-use lib.Signed.{lt_z, non_neg}
+use borrow.Author.Tests.{eq-eqb, ne_eqb, le-leb, lt-leb}
+use Rattle.bits.proofs.Entry.{good}
 use Rattle.bits.specs.Rule.{signed_of, unsigned_of, SeRange}
-use Prim.Native.Nat.{ℕ, zero, suc, ◌+◌, ◌-◌, ◌*◌, ◌/◌, ◌%◌, ◌≤◌, ◌<◌}
+use Prim.Native.Nat.{ℕ, zero, suc, ◌+◌, ◌*◌, ◌/◌, ◌%◌, ◌<◌}
 use native.Mathlib.Decide.{dec_lt}
 use mathlib.Core.Logic.{dite}
 use native.Mathlib.Omega.{arith}
-use lib.Dec.{lit<, leb, T}
-use lib.IntN.{ℤ, pos, negsuc, nat_abs, neg_ℤ, ◌-ℤ◌, +ℤ_idl}
+use lib.Dec.{leb}
+use lib.IntN.{ℤ, pos, negsuc, nat_abs}
 use mir.Syntax.{w32}
-use mir.Val.{SFits, to_z, of_z}
-use mir.ValLaws.{to_z_pos}
-
-pub neg_fits : (n : ℕ) → n < 2147483648 → SFits w32 (neg_ℤ (pos n))
-neg_fits zero h = record { sfits = lit< tt }
-neg_fits (suc n) h = record { sfits = omega arith }
-
-pub zero_sub : (n : ℕ) → n < 2147483648 → pos 0 -ℤ to_z w32 n ≡ neg_ℤ (pos n)
-zero_sub n h = ap (λ (z : ℤ). pos 0 -ℤ z) (to_z_pos w32 n h) ∙ +ℤ_idl (neg_ℤ (pos n))
+use mir.Val.{SFits, of_z}
 
 -- ---- se(v)'s number of ue(v)
-
-pub code_positive : (z : ℤ) → SFits w32 z → lt_z (pos 0) z ≡ true
-    → T (non_neg z) × (nat_abs z < 2147483648) × (1 ≤ nat_abs z) × (nat_abs z * 2 - 1 ≡ unsigned_of z)
-code_positive (pos zero) f h = absurd (let l = ltb-true 0 0 h in omega arith)
-code_positive (pos (suc n)) f h = let l = f.sfits in (tt, omega arith, omega arith, omega arith)
-code_positive (negsuc n) f h = absurd (let e : ◌≡◌ {A = ℕ} 0 1 = cc in omega arith)
-
-pub code_other : (z : ℤ) → SFits w32 z → lt_z (pos 0) z ≡ false → (z ≡ negsuc 2147483647 → ⊥)
-    → SFits w32 (pos 0 -ℤ z) × T (non_neg (pos 0 -ℤ z)) × (nat_abs (pos 0 -ℤ z) < 2147483648) × (nat_abs (pos 0 -ℤ z) * 2 ≡ unsigned_of z)
-code_other (pos zero) f h n = (record { sfits = lit< tt }, tt, lit< tt, refl)
-code_other (pos (suc k)) f h n = absurd (let l = ltb-false 0 (suc k) h in omega arith)
-code_other (negsuc k) f h n =
-    let l = f.sfits in
-    let ne : k ≡ 2147483647 → ⊥ = λ e. n (ap negsuc e) in
-    (record { sfits = omega arith }, tt, omega arith, omega arith)
 
 pub is_least : (z : ℤ) → SFits w32 z → of_z w32 z ≡ 2147483648 → leb 2147483648 (nat_abs z) ≡ true
 is_least (pos n) f e = absurd (let l = f.sfits in omega arith)
@@ -82,3 +59,6 @@ pub has_code : (z : ℤ) → SeRange z → unsigned_of z < 4294967295
 has_code (pos zero) h = omega arith
 has_code (pos (suc n)) h = omega arith
 has_code (negsuc n) h = omega arith
+
+-- what a write of a signed value cites
+pub ruleset code_writing = (good, is_least, not_least, has_code)

@@ -1,15 +1,15 @@
 -- What a writer stores, as numbers: bytes of a number, the pending bits shifted up and the new ones behind them.
-use mathlib.Core.Path.{◌≡◌, refl, sym, ap, ap₂, ◌∙◌, subst}
+use mathlib.Core.Path.{◌≡◌, refl, sym, ap, ap₂, ◌∙◌}
 use mathlib.Core.List.{List, [], ◌∷◌, ◌++◌, append_assoc, append-nil}
-use mathlib.Core.Logic.{◌⊎◌, inl, inr}
 use Prim.Native.Nat.{ℕ, zero, suc, ◌+◌, ◌-◌, ◌*◌, ◌/◌, ◌%◌, ◌^◌, ◌≤◌, ◌<◌}
-use native.Mathlib.Nat.{lt_of_lt_of_le, eq-or-lt_of_le, le_of_suc-le-suc, mod-lt, mod-eq_of_lt, div-one, add-zero, add-suc, add_assoc, mul_assoc}
+use native.Mathlib.Nat.{pow-suc, mod-lt, mod-eq_of_lt, div-one, add-zero, add-suc, add_assoc, mul_assoc}
+use native.Mathlib.Numerals.{one-add}
 use native.Mathlib.Omega.{arith}
-use lib.ListN.{length, get_or, take, drop, length-drop, length-append, take-append-drop, get_or-append}
-use lib.Seq.{paste, get_or_at, take_all, take_at, drop-append-add, drop-drop, length-take-le}
-use lib.Pow.{pow-add, mod-pow-add, mod-mod-pow, field, high, low, shr-shr, shl_exact, pow_pos, pow_mono}
-use lib.Arith.{digits_lt}
+use lib.ListN.{length, take, drop, length-drop, length-append, take-append-drop}
+use lib.Seq.{paste, take_all, take_at, drop_at, drop-append-add, drop-drop, length-take-le}
+use lib.Pow.{pow-add, mod-pow-add, mod-mod-pow, field, high, low, shr-shr, shl_exact, pow_pos}
 use lib.Bits.{bit_and}
+use Rattle.std.specs.Int.{w64, to_be_bytes, bytes_high_first, byte_at}
 use Rattle.desk.specs.Numbers.{most}
 use Rattle.bits.specs.Step.{bytes_of, filled, whole_with, writer, stored, stored_more, wrote, Good, GoodAfter}
 use Rattle.bits.specs.declared.BitWriter.{BitWriter}
@@ -21,23 +21,6 @@ pub length_bytes : (k x : ℕ) → length (bytes_of k x) ≡ k
 unfolding bytes_of
 length_bytes zero x = refl
 length_bytes (suc k) x = length-append (bytes_of k (x / 256)) (x % 256 ∷ []) ∙ omega (arith, length_bytes k (x / 256))
-
-pub bytes_at : (k x j : ℕ) → j < k → get_or (bytes_of k x) j 0 ≡ x / 2 ^ (8 * (k - 1 - j)) % 256
-unfolding bytes_of
-bytes_at zero x j h = absurd (omega arith)
-bytes_at (suc k) x j h = go (bytes_at k (x / 256) j) (eq-or-lt_of_le (le_of_suc-le-suc h))
-  where
-    go : (j < k → get_or (bytes_of k (x / 256)) j 0 ≡ x / 256 / 2 ^ (8 * (k - 1 - j)) % 256) → (j ≡ k) ⊎ (j < k)
-        → get_or (bytes_of k (x / 256) ++ (x % 256 ∷ [])) j 0 ≡ x / 2 ^ (8 * (suc k - 1 - j)) % 256
-    go ih (inl e) =
-        let none : 0 ≡ 8 * (suc k - 1 - j) = omega arith in
-        get_or_at (bytes_of k (x / 256)) (x % 256) [] 0 j (length_bytes k (x / 256) ∙ sym e)
-        ∙ ap (λ (y : ℕ). y % 256) (sym (div-one x)) ∙ ap (λ (n : ℕ). x / 2 ^ n % 256) none
-    go ih (inr l) =
-        let stored_more : 8 + 8 * (k - 1 - j) ≡ 8 * (suc k - 1 - j) = omega arith in
-        get_or-append (bytes_of k (x / 256)) (x % 256 ∷ []) 0 j (omega (arith, length_bytes k (x / 256)))
-        ∙ ih l
-        ∙ ap (λ (y : ℕ). y % 256) (shr-shr x 8 (8 * (k - 1 - j)) ∙ ap (λ (n : ℕ). x / 2 ^ n) stored_more)
 
 -- all bytes pasted
 pub paste_filled : (o : List ℕ) (w k y : ℕ) → paste o w (bytes_of k y) k ≡ filled o w k y
@@ -63,6 +46,28 @@ bytes_mod (suc k) z =
     (ap (λ (n : ℕ). z % 2 ^ n / 256) e ∙ field z (8 * k) 8)
     (ap (λ (n : ℕ). z % 2 ^ n % 256) e ∙ mod-mod-pow z (8 * k) 8)
     ∙ ap (λ (l : List ℕ). l ++ (z % 256 ∷ [])) (bytes_mod k (z / 256))
+
+pow_256 : (k : ℕ) → 256 ^ k ≡ 2 ^ (8 * k)
+pow_256 zero = refl
+pow_256 (suc k) =
+    pow-suc 256 k ∙ ap (λ (x : ℕ). x * 256) (pow_256 k) ∙ sym (pow-add 2 (8 * k) 8) ∙ ap (λ (n : ℕ). 2 ^ n) (omega arith)
+
+high_first : (k x : ℕ) → bytes_high_first k x ≡ bytes_of k x
+unfolding bytes_of
+high_first zero x = refl
+high_first (suc k) x =
+    ap₂ (λ (b : ℕ) (l : List ℕ). b ∷ l) (high_byte k x) (high_first k x) ∙ sym (bytes_split 1 k x) ∙ ap (λ (n : ℕ). bytes_of n x) (one-add k)
+  where
+    high_byte : (k x : ℕ) → byte_at k x ≡ x / 2 ^ (8 * k) % 256
+    high_byte zero x = ap (λ (y : ℕ). y % 256) (sym (div-one x))
+    high_byte (suc k) x = ap (λ (y : ℕ). x / y % 256) (pow_256 (suc k))
+
+-- the last k of the eight bytes of a u64
+pub last_bytes : (k x : ℕ) → k ≤ 8 → drop (8 - k) (to_be_bytes w64 x) ≡ bytes_of k x
+last_bytes k x h =
+    let cut : 8 ≡ 8 - k + k = omega arith in
+    ap (drop (8 - k)) (high_first 8 x ∙ ap (λ (n : ℕ). bytes_of n x) cut ∙ bytes_split (8 - k) k x)
+    ∙ drop_at (bytes_of (8 - k) (x / 2 ^ (8 * k))) (bytes_of k x) (8 - k) (length_bytes (8 - k) (x / 2 ^ (8 * k)))
 
 -- ---- a room that was filled
 
@@ -95,13 +100,6 @@ filled_filled o w j k y z h e =
 
 pub shifted_bits : (p c n : ℕ) → p < 2 ^ c → c ≤ 7 → n ≤ 32 → (p * 2 ^ n) % 2 ^ 64 ≡ p * 2 ^ n
 shifted_bits p c n h l k = shl_exact c n 64 h (omega arith)
-
-pub joined_lt : (p c n v : ℕ) → p < 2 ^ c → v < 2 ^ n → p * 2 ^ n + v < 2 ^ (c + n)
-joined_lt p c n v h l = subst (λ (x : ℕ). p * 2 ^ n + v < x) (sym (pow-add 2 c n)) (digits_lt h l)
-
-pub joined_fits : (p c n v : ℕ) → p < 2 ^ c → c ≤ 7 → n ≤ 32 → v < 2 ^ n → (p * 2 ^ n) % 2 ^ 64 + v < 2 ^ 39
-joined_fits p c n v h l k b =
-    rw (shifted_bits p c n h l k) (lt_of_lt_of_le (joined_lt p c n v h b) (pow_mono {i = c + n} {j = 39} (omega arith)))
 
 pub put_is : (o o' : List ℕ) (st : BitWriter) (n v : ℕ) → st.pending < 2 ^ st.count → st.count ≤ 7 → n ≤ 32 →
     let x = (st.pending * 2 ^ n) % 2 ^ 64 + v in

@@ -27,12 +27,13 @@ trailing_one (suc k) n pos h = go (n % 2) refl (trailing_one k (n / 2))
     go : (d : ℕ) → n % 2 ≡ d → (0 < n / 2 → n / 2 < 2 ^ k → n / 2 / 2 ^ count_trailing_zeros k (n / 2) % 2 ≡ 1)
         → n / 2 ^ under d (count_trailing_zeros k (n / 2)) % 2 ≡ 1
     go zero e ih =
-        ap (λ (x : ℕ). n / 2 ^ x % 2) (sym (one-add (count_trailing_zeros k (n / 2)))) ∙ ap (λ (x : ℕ). x % 2) (sym (shr-shr n 1 (count_trailing_zeros k (n / 2))))
+        ap (λ (x : ℕ). n / 2 ^ x % 2) (sym (one-add (count_trailing_zeros k (n / 2))))
+        ∙ ap (λ (x : ℕ). x % 2) (sym (shr-shr n 1 (count_trailing_zeros k (n / 2))))
         ∙ ih (omega arith) (omega arith)
     go (suc d) e ih = ap (λ (x : ℕ). x % 2) (div-one n) ∙ omega arith
 
-pub trailing_byte : (b : ℕ) → 0 < b → b < 256 → count_trailing_zeros 32 b < 8
+pub trailing_byte : (b : ℕ) → 0 < b → b < 256 → count_trailing_zeros 8 b < 8
 trailing_byte b pos small =
-    let t = count_trailing_zeros 32 b in
+    let t = count_trailing_zeros 8 b in
     pow_lt_cancel {a = t} {b = 8}
-    (lt_of_not-le (λ (g : 256 ≤ 2 ^ t). not-le_of_lt pos (le_of_eq (sym (mod-eq_of_lt (lt_of_lt_of_le small g)) ∙ trailing_low 32 b))))
+    (lt_of_not-le (λ (g : 256 ≤ 2 ^ t). not-le_of_lt pos (le_of_eq (sym (mod-eq_of_lt (lt_of_lt_of_le small g)) ∙ trailing_low 8 b))))

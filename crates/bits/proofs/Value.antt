@@ -2,10 +2,11 @@
 use mathlib.Core.Path.{◌≡◌, refl, sym, ap, ap₂, ◌∙◌}
 use mathlib.Core.List.{List}
 use Prim.Native.Nat.{ℕ, zero, suc, ◌+◌, ◌-◌, ◌*◌, ◌/◌, ◌%◌, ◌^◌, ◌≤◌, ◌<◌}
-use native.Mathlib.Nat.{lt_of_not-le, not-le_of_lt, one-mul, mod-lt, mod-eq_of_lt, div-one, pow-suc, add-zero, add-suc, add_assoc, mul_assoc}
+use native.Mathlib.Nat.{le_refl, lt_of_not-le, not-le_of_lt, one-mul, mod-lt, mod-eq_of_lt, div-one, pow-suc, add-zero, add-suc, add_assoc, mul_assoc}
 use native.Mathlib.Numerals.{add-one}
 use native.Mathlib.Omega.{arith}
-use lib.ListN.{get_or}
+use lib.ListN.{get_or, take, drop}
+use Rattle.std.proofs.lemmas.List.{get_or-take, get_or-drop}
 use lib.Pow.{mod-pow-add, high, low, shr-shr, shl_exact, pow_mono}
 use lib.Bits.{bit_and, and_mask}
 use lib.Dec.{lit<}
@@ -27,6 +28,12 @@ pub value_lt : (s : List ℕ) (p n : ℕ) → value_at s p n < 2 ^ n
 unfolding value_at
 value_lt s p zero = lit< tt
 value_lt s p (suc n) = omega (arith, value_lt s p n, bit_lt s (p + n))
+
+pub value_small : (s : List ℕ) (p n : ℕ) → n ≤ 32 → value_at s p n < 4294967296
+value_small s p n h = omega (arith, value_lt s p n, pow_mono {i = n} {j = 32} h)
+
+pub value_byte_lt : (s : List ℕ) (p n : ℕ) → n ≤ 8 → value_at s p n < 256
+value_byte_lt s p n h = omega (arith, value_lt s p n, pow_mono {i = n} {j = 8} h)
 
 -- omega does not open a power that is a factor: hand it this
 pub times_pow_suc : (a n : ℕ) → a * 2 ^ suc n ≡ a * 2 ^ n * 2
@@ -63,13 +70,23 @@ value_byte s i h =
     ∙ ap (λ (x : ℕ). x % 2 ^ 8) (div-one (get_or s i 0)) ∙ mod-eq_of_lt h
 
 -- one more whole byte
-pub value_more : (s : List ℕ) (f i : ℕ) → f ≤ i → get_or s i 0 < 256
-    → value_at s (8 * f) (8 * (i + 1 - f)) ≡ value_at s (8 * f) (8 * (i - f)) * 256 + get_or s i 0
-value_more s f i l h =
-    ap (value_at s (8 * f)) (omega arith)
-    ∙ value_split s (8 * f) (8 * (i - f)) 8
-    ∙ ap (λ (x : ℕ). value_at s (8 * f) (8 * (i - f)) * 256 + x)
-    (ap (λ (k : ℕ). value_at s k 8) (omega arith) ∙ value_byte s i h)
+pub value_more : (s : List ℕ) (i : ℕ) → get_or s i 0 < 256 → value_at s 0 (8 * (i + 1)) ≡ value_at s 0 (8 * i) * 256 + get_or s i 0
+value_more s i h =
+    let more : 8 * (i + 1) ≡ 8 * i + 8 = omega arith in
+    let place : 0 + 8 * i ≡ 8 * i = omega arith in
+    ap (value_at s 0) more ∙ value_split s 0 (8 * i) 8
+    ∙ ap (λ (x : ℕ). value_at s 0 (8 * i) * 256 + x) (ap (λ (k : ℕ). value_at s k 8) place ∙ value_byte s i h)
+
+-- the first m bits of n bytes from byte f on
+pub value_part : (s : List ℕ) (f n m : ℕ) → m ≤ 8 * n → value_at (take n (drop f s)) 0 m ≡ value_at s (8 * f) m
+unfolding value_at bit_at
+value_part s f n zero h = refl
+value_part s f n (suc m) h =
+    let byte : f + (0 + m) / 8 ≡ (8 * f + m) / 8 = omega arith in
+    let bit : (0 + m) % 8 ≡ (8 * f + m) % 8 = omega arith in
+    ap₂ (λ (x y : ℕ). x * 2 + y) (value_part s f n m (omega arith))
+    (ap₂ (λ (x k : ℕ). x / 2 ^ (7 - k) % 2)
+    (get_or-take n (drop f s) ((0 + m) / 8) 0 (omega arith) ∙ get_or-drop f s ((0 + m) / 8) 0 ∙ ap (λ (k : ℕ). get_or s k 0) byte) bit)
 
 -- a field within a longer one: a bits, the field of n bits, r bits
 pub value_field : (s : List ℕ) (p a n r : ℕ) → value_at s p (a + n + r) / 2 ^ r % 2 ^ n ≡ value_at s (p + a) n
@@ -82,6 +99,10 @@ value_field s p a n r =
 pub one_shl : (w n : ℕ) → n < w → (1 * 2 ^ n) % 2 ^ w ≡ 2 ^ n
 one_shl w n h = shl_exact {a = 1} 1 n w (lit< tt) (omega arith) ∙ one-mul (2 ^ n)
 
+-- and a value of n bits beside it, at 32 bits
+pub ue_fits : (s : List ℕ) (p n : ℕ) → n ≤ 31 → (1 * 2 ^ n) % 4294967296 + value_at s p n < 4294967296
+ue_fits s p n h = omega (arith, one_shl 32 n (omega arith), pow_mono {i = n} {j = 31} h, value_lt s p n)
+
 -- the mask `(1 << n) - 1` at w bits
 pub masked : (w x n : ℕ) → n < w → bit_and x ((1 * 2 ^ n) % 2 ^ w - 1) ≡ x % 2 ^ n
 masked w x n h = ap (λ (m : ℕ). bit_and x (m - 1)) (one_shl w n h) ∙ and_mask x n
@@ -93,6 +114,12 @@ value_cut s p n f t r l e =
     ap (λ (k : ℕ). value_at s (8 * f) k / 2 ^ r % 2 ^ n) (omega arith)
     ∙ value_field s (8 * f) (p - 8 * f) n r
     ∙ ap (λ (k : ℕ). value_at s k n) (omega arith)
+
+-- and of those bytes alone
+pub value_cut_part : (s : List ℕ) (p n f t r : ℕ) → 8 * f ≤ p → p + n + r ≡ 8 * t
+    → value_at (take (t - f) (drop f s)) 0 (8 * (t - f)) / 2 ^ r % 2 ^ n ≡ value_at s p n
+value_cut_part s p n f t r l e =
+    ap (λ (x : ℕ). x / 2 ^ r % 2 ^ n) (value_part s f (t - f) (8 * (t - f)) (le_refl _)) ∙ value_cut s p n f t r l e
 
 -- of two powers, the smaller has the smaller exponent
 pub pow_lt_cancel : {a b : ℕ} → 2 ^ a < 2 ^ b → a < b

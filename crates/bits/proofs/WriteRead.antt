@@ -17,8 +17,8 @@ use Rattle.bits.specs.Reading.{Entered}
 use Rattle.bits.specs.Writing.{content, Appends, WriteMeans, Field, u, flag, ue, se, code_of, HasCode, without, ReadsField}
 use Rattle.bits.specs.Writing.{WritesFields, nothing, one_more, ReadBack, end, then}
 use Rattle.bits.specs.declared.BitWriter.{BitWriter}
-use Rattle.bits.specs.declared.Put.TheVariants.{Done}
-use Rattle.bits.proofs.Back.{write_answer}
+use Rattle.std.specs.Prelude.{Ok}
+use Rattle.bits.proofs.Back.{outcome_back}
 use Rattle.bits.proofs.Entry.{enters}
 use Rattle.bits.proofs.Value.{value_lt, value_split, value_one}
 use Rattle.bits.proofs.Ones.{last_is}
@@ -40,7 +40,7 @@ written_codes : {o o' : List ℕ} {st st' : BitWriter} {fs : List Field} → Wri
     → AllHave fs × (content o' st' ≡ content o st ++ codes_of fs)
 written_codes {o} {st} nothing = (tt, sym (append-nil (content o st)))
 written_codes {o} {st} (one_more {f} {fs} h t) =
-    let m = subst (WriteMeans o st (code_of f) (HasCode f) (without f)) (sym (write_answer h))
+    let m = subst (WriteMeans o st (code_of f) (HasCode f) (without f)) (sym (outcome_back h))
     (field_means o st f) in
     let r = written_codes t in (
       (m.1, r.0),
@@ -124,11 +124,11 @@ closed {o} {o'} {st} {st'} g a =
 
 -- what was written into a room from a new writer, with trailing bits behind it, reads back from place 0, and ends where the trailing bits are
 pub write_read : {o o₁ o₂ : List ℕ} {st₁ st₂ : BitWriter} {fs : List Field} → WritesFields o new_writer fs o₁ st₁
-    → Writes st₁ (Done st₂) o₂ (write_trailing o₁ st₁)
+    → Writes st₁ st₂ (Ok tt) o₂ (write_trailing o₁ st₁)
     → (p : ℕ) × ReadBack (take st₂.written.0 o₂) 0 fs p × (finish_rbsp (take st₂.written.0 o₂) p ≡ 0)
 write_read {o} {o₁} {o₂} {st₁} {st₂} {fs} h t =
     let r = written_codes h in
-    let m = subst (WriteMeans o₁ st₁ (trailing_bits st₁.count) Unit 0) (sym (write_answer t))
+    let m = subst (WriteMeans o₁ st₁ (trailing_bits st₁.count) Unit 0) (sym (outcome_back t))
     (trailing_means o₁ st₁) in
     let c = st₁.count in
     let s = take st₂.written.0 o₂ in

@@ -204,7 +204,8 @@ module _ (o : List ℕ) (st : BitWriter) where
   se_means z =
       unless_by (FieldMeans (se z)) (λ k. kept k o) (entry_on (length o) st) _ (entry_means o st (se_code z) (SeRange z) 9)
       (λ e. let g = good (length o) st e in
-      cond_by (FieldMeans (se z)) (leb 2147483648 (nat_abs z)) _ _ (λ t. (refl, code_missing g (λ h. omega (arith, leb-true 2147483648 (nat_abs z) t))))
+      cond_by (FieldMeans (se z)) (leb 2147483648 (nat_abs z)) _ _
+      (λ t. (refl, code_missing g (λ h. omega (arith, leb-true 2147483648 (nat_abs z) t))))
       (λ b. let l = leb-false 2147483648 (nat_abs z) b in
       let r : SeRange z = omega arith in
       let s = has_code z r in

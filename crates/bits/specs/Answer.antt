@@ -1,28 +1,15 @@
--- WHAT EACH CALL ANSWERS, for everything that goes in, refusals included; and, for each kind of
--- answer, the contract that ties a call's result to it.
-use Rattle.std.specs.Prelude.{ℕ, zero, suc, ◌+◌, ◌-◌, ◌/◌, ◌%◌, ◌^◌, ◌≡◌, List, [], ◌∷◌, Bool, true, false, cond, ◌||◌, length, ltb, leb, eqb, ℤ, nat_abs}
+-- WHAT EACH CALL ANSWERS, for everything that goes in, refusals included; and the contracts that tie a call's result to it.
+use Rattle.std.specs.Prelude.{ℕ, zero, suc, ◌+◌, ◌-◌, ◌/◌, ◌%◌, ◌^◌, ◌≡◌, List, [], ◌∷◌, Bool, false, cond, ◌||◌, length, ltb, leb, eqb, ℤ, nat_abs}
+use Rattle.std.specs.Prelude.{Result, Ok, Err, Option as Optional, Some, None}
 use Rattle.std.proofs.Math.Option.{Option, none, some}
 use Rattle.desk.specs.Numbers.{done, bad_width, bits_run_out, exp_golomb_too_large, remaining_data, no_code, no_room, entry_of}
+use Rattle.desk.specs.Refusing.{number_of}
+use Rattle.desk.specs.declared.refusal.Refusal.{Refusal}
 use Rattle.bits.specs.Rule.{size, value_at, first_one, last_one, signed_of, unsigned_of, prefix_of}
 use Rattle.bits.specs.Step.{Wrote, wrote, kept, writer, whole_with, stored}
 use Rattle.bits.specs.declared.BitReader.{BitReader}
-use Rattle.bits.specs.declared.Bits.{Bits}
-use Rattle.bits.specs.declared.Bits.TheVariants.{Value, Refused}
-use Rattle.bits.specs.declared.Bit.{Bit}
-use Rattle.bits.specs.declared.Bit.TheVariants.{Value as BValue, Refused as BRefused}
-use Rattle.bits.specs.declared.Signed.{Signed}
-use Rattle.bits.specs.declared.Signed.TheVariants.{Value as SValue, Refused as SRefused}
-use Rattle.bits.specs.declared.Moved.{Moved}
-use Rattle.bits.specs.declared.Moved.TheVariants.{To, Refused as MRefused}
-use Rattle.bits.specs.declared.More.{More}
-use Rattle.bits.specs.declared.More.TheVariants.{Yes, No, Refused as YRefused}
-use Rattle.bits.specs.declared.Aligned.{Aligned}
-use Rattle.bits.specs.declared.Aligned.TheVariants.{At, Within}
-use Rattle.bits.specs.declared.Mapped.{Mapped}
-use Rattle.bits.specs.declared.Mapped.TheVariants.{Value as Is, Refused as NRefused}
+use Rattle.bits.specs.declared.BytePos.{BytePos}
 use Rattle.bits.specs.declared.BitWriter.{BitWriter}
-use Rattle.bits.specs.declared.Put.{Put}
-use Rattle.bits.specs.declared.Put.TheVariants.{Done, Refused as PRefused}
 
 -- what a read gives: a value and the place after it; or a number of the table, and the reader stays where it was
 pub data Ans (A : Type 0) : Type 0 where
@@ -117,28 +104,20 @@ finish_rbsp s p = unless (λ n. n) (entry_at s p) (finish_from bits_run_out p (l
 unfoldable pub finish_sei : List ℕ → ℕ → ℕ
 finish_sei s p = unless (λ n. n) (entry_at s p) (cond (eqb p (size s)) done (finish_from remaining_data p (last_one s p (size s - p))))
 
--- ---- what the answers of the code stand for
+-- ---- what a call of the code stands for: what it returns, and the reader that it leaves
 
-abbrev pub answer : Bits → Ans ℕ
-answer (Value v r) = got v r.at.0
-answer (Refused n r) = no n
+abbrev pub answer : {A : Type 0} → Result A Refusal → BitReader → Ans A
+answer (Ok a) r = got a r.at.0
+answer (Err e) r = no (number_of e)
 
-abbrev pub bit_answer : Bit → Ans Bool
-bit_answer (BValue v r) = got v r.at.0
-bit_answer (BRefused n r) = no n
+-- without the reader
+abbrev pub told_by : {A : Type 0} → Result A Refusal → Told A
+told_by (Ok a) = told a
+told_by (Err e) = denied (number_of e)
 
-abbrev pub signed_answer : Signed → Ans ℤ
-signed_answer (SValue v r) = got v r.at.0
-signed_answer (SRefused n r) = no n
-
-abbrev pub moved_answer : Moved → Ans Unit
-moved_answer (To r) = got tt r.at.0
-moved_answer (MRefused n r) = no n
-
-abbrev pub more_answer : More → Told Bool
-more_answer Yes = told true
-more_answer No = told false
-more_answer (YRefused n) = denied n
+abbrev pub told_of : {A : Type 0} → Ans A → Told A
+told_of (got a q) = told a
+told_of (no n) = denied n
 
 -- an answer's number: 0, or that of the refusal
 abbrev pub number : {A : Type 0} → Ans A → ℕ
@@ -149,42 +128,15 @@ abbrev pub told_number : {A : Type 0} → Told A → ℕ
 told_number (told a) = done
 told_number (denied n) = n
 
--- ---- and back: the one answer of the code that stands for an answer. A refusal gives the reader back as it came.
+-- the reader that an answer leaves. A refusal leaves it as it came.
+abbrev pub reader_back : {A : Type 0} → BitReader → Ans A → BitReader
+reader_back from (got a q) = reader_at q
+reader_back from (no n) = from
 
-abbrev pub back_by : {A R : Type 0} → (A → BitReader → R) → (ℕ → BitReader → R) → BitReader → Ans A → R
-back_by value refused from (got a q) = value a (reader_at q)
-back_by value refused from (no n) = refused n from
-
-abbrev pub back : BitReader → Ans ℕ → Bits
-back = back_by Value Refused
-
-abbrev pub bit_back : BitReader → Ans Bool → Bit
-bit_back = back_by BValue BRefused
-
-abbrev pub signed_back : BitReader → Ans ℤ → Signed
-signed_back = back_by SValue SRefused
-
-abbrev pub moved_back : BitReader → Ans Unit → Moved
-moved_back = back_by (λ v r. To r) MRefused
-
-abbrev pub more_back : Told Bool → More
-more_back (told true) = Yes
-more_back (told false) = No
-more_back (denied n) = YRefused n
-
--- ---- the contracts of reading, for each kind of answer: what the call gives for the answer to everything that went in
-
-abbrev pub Reads : BitReader → Bits → Ans ℕ → Type 0
-Reads from r a = r ≡ back from a
-
-abbrev pub ReadsBit : BitReader → Bit → Ans Bool → Type 0
-ReadsBit from r a = r ≡ bit_back from a
-
-abbrev pub ReadsSigned : BitReader → Signed → Ans ℤ → Type 0
-ReadsSigned from r a = r ≡ signed_back from a
-
-abbrev pub Moves : BitReader → Moved → Ans Unit → Type 0
-Moves from r a = r ≡ moved_back from a
+-- THE CONTRACT OF READING: a call with the reader `from` answers a, and leaves the reader `after`
+pub record Reads {A : Type 0} (from after : BitReader) (r : Result A Refusal) (a : Ans A) : Type 0 where
+  pub answers : told_by r ≡ told_of a
+  pub cursor : after ≡ reader_back from a
 
 -- ---- positions, and se(v)'s mapping as a call
 
@@ -192,25 +144,17 @@ Moves from r a = r ≡ moved_back from a
 abbrev pub whole_bytes : ℕ → Option ℕ
 whole_bytes p = cond (eqb (p % 8) 0) (some (p / 8)) none
 
-abbrev pub aligned_answer : Aligned → Option ℕ
-aligned_answer (At b) = some b.0
-aligned_answer Within = none
+abbrev pub aligned_answer : Optional BytePos → Option ℕ
+aligned_answer (Some b) = some b.0
+aligned_answer None = none
 
-abbrev pub aligned_back : Option ℕ → Aligned
-aligned_back (some b) = At (record { 0 = b })
-aligned_back none = Within
+abbrev pub aligned_back : Option ℕ → Optional BytePos
+aligned_back (some b) = Some (record { 0 = b })
+aligned_back none = None
 
 -- 2 ^ 32 - 1, the last of the u32, has no code
 abbrev pub mapped : ℕ → Told ℤ
 mapped k = cond (leb 4294967295 k) (denied no_code) (told (signed_of k))
-
-abbrev pub mapped_answer : Mapped → Told ℤ
-mapped_answer (Is z) = told z
-mapped_answer (NRefused n) = denied n
-
-abbrev pub mapped_back : Told ℤ → Mapped
-mapped_back (told z) = Is z
-mapped_back (denied n) = NRefused n
 
 -- ---- writing
 
@@ -261,27 +205,31 @@ write_se o st z =
 unfoldable pub write_trailing : List ℕ → BitWriter → Wrote
 write_trailing o st = unless (λ k. kept k o) (entry_on (length o) st) (roomed o st (8 - st.count) (2 ^ (7 - st.count)))
 
--- ---- the contract of writing
+-- ---- what a call of the code stands for: what it returns, the writer that it leaves, and the room
 
--- what the code's answer stands for, beside the room as the call returns
-abbrev pub outcome : Put → List ℕ → Wrote
-outcome (Done st) o = wrote st o
-outcome (PRefused n st) o = kept n o
+abbrev pub outcome : Result Unit Refusal → BitWriter → List ℕ → Wrote
+outcome (Ok u) st o = wrote st o
+outcome (Err e) st o = kept (number_of e) o
+
+abbrev pub wrote_told : Wrote → Told Unit
+wrote_told (wrote st o) = told tt
+wrote_told (kept n o) = denied n
 
 abbrev pub wrote_number : Wrote → ℕ
 wrote_number (wrote st o) = done
 wrote_number (kept n o) = n
 
--- and back. A refusal gives the writer back as it came.
-abbrev pub put_back : BitWriter → Wrote → Put
-put_back from (wrote st o) = Done st
-put_back from (kept n o) = PRefused n from
+-- the writer and the room that an answer leaves. A refusal leaves the writer as it came.
+abbrev pub writer_back : BitWriter → Wrote → BitWriter
+writer_back from (wrote st o) = st
+writer_back from (kept n o) = from
 
 abbrev pub room_back : Wrote → List ℕ
 room_back (wrote st o) = o
 room_back (kept n o) = o
 
--- what a call gives, and what the room holds as it returns
-pub record Writes (from : BitWriter) (r : Put) (room : List ℕ) (a : Wrote) : Type 0 where
-  pub answers : r ≡ put_back from a
+-- THE CONTRACT OF WRITING: a call with the writer `from` answers a, and leaves the writer `after` and the room
+pub record Writes (from after : BitWriter) (r : Result Unit Refusal) (room : List ℕ) (a : Wrote) : Type 0 where
+  pub answers : told_by r ≡ wrote_told a
+  pub writer : after ≡ writer_back from a
   pub memory : room ≡ room_back a

@@ -7,9 +7,7 @@ pub use Rattle.bits.specs.Rule.{size, bits, bits_of, URange, ue_code, UeRange, s
 pub use Rattle.bits.specs.Answer.{Ans, got, no, number, Told, told, denied, told_number, and_then, unless, bit_number}
 pub use Rattle.bits.specs.Answer.{reader_at, new_reader, past_end, read_bits, read_bit, read_ue, read_se, skipped}
 pub use Rattle.bits.specs.Answer.{has_more, finish_rbsp, finish_sei, whole_bytes, mapped}
-pub use Rattle.bits.specs.Answer.{answer, bit_answer, signed_answer, moved_answer, more_answer, aligned_answer, mapped_answer}
-pub use Rattle.bits.specs.Answer.{back_by, back, bit_back, signed_back, moved_back, more_back, aligned_back, mapped_back}
-pub use Rattle.bits.specs.Answer.{Reads, ReadsBit, ReadsSigned, Moves}
+pub use Rattle.bits.specs.Answer.{answer, told_by, told_of, reader_back, Reads, aligned_answer, aligned_back}
 
 -- what the entry checks 1 and 2 let through
 pub record Entered (s : List ℕ) (p : ℕ) : Type 0 where

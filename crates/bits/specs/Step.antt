@@ -1,25 +1,28 @@
 -- THE SHAPE OF THE CODE: what its searches find, and what a writer stores.
-use Rattle.std.specs.Prelude.{ℕ, zero, suc, ◌+◌, ◌-◌, ◌*◌, ◌/◌, ◌%◌, ◌^◌, ◌≤◌, ◌<◌, ◌≡◌, List, [], ◌∷◌, ◌++◌, cond, length, take, drop, ltb}
+use Rattle.std.specs.Prelude.{ℕ, zero, suc, ◌+◌, ◌*◌, ◌/◌, ◌%◌, ◌^◌, ◌≤◌, ◌<◌, ◌≡◌, List, [], ◌∷◌, ◌++◌, length, get_or, take, drop}
+use Rattle.std.specs.Prelude.{Option as Optional, Some, None}
 use Rattle.std.proofs.Math.Option.{Option, none, some}
 use Rattle.desk.specs.Numbers.{most}
+use Rattle.bits.specs.declared.BitPos.{BitPos}
 use Rattle.bits.specs.declared.BitWriter.{BitWriter}
-use Rattle.bits.specs.Rule.{size, bit_at, value_at, first_one, prefix_of}
+use Rattle.bits.specs.Rule.{prefix_of}
 
--- a place below the end, or none
-abbrev pub placed : ℕ → ℕ → Option ℕ
-placed q e = cond (ltb q e) (some q) none
+-- the place that a search finds
+abbrev pub place : Optional BitPos → Option ℕ
+place (Some q) = some q.0
+place None = none
 
--- q is the place of the first one at or after p, or the end where there is none
-pub record FirstFrom (s : List ℕ) (p q : ℕ) : Type 0 where
-  pub from : p ≤ q
-  pub within : q ≤ size s
-  pub found : first_one s p (size s - p) ≡ placed q (size s)
+-- byte i is not zero, and those before it are
+pub record FirstNonzero (s : List ℕ) (i : ℕ) : Type 0 where
+  pub within : i < length s
+  pub nonzero : 0 < get_or s i 0
+  pub zeros : (k : ℕ) → k < i → get_or s k 0 ≡ 0
 
--- e is the place after the last one of s, or 0 where there is none
-pub record AfterLast (s : List ℕ) (e : ℕ) : Type 0 where
-  pub within : e ≤ size s
-  pub zeros : value_at s e (size s - e) ≡ 0
-  pub one : 0 < e → bit_at s (e - 1) ≡ 1
+-- byte i is not zero, and those behind it are
+pub record LastNonzero (s : List ℕ) (i : ℕ) : Type 0 where
+  pub within : i < length s
+  pub nonzero : 0 < get_or s i 0
+  pub zeros : (k : ℕ) → i < k → k < length s → get_or s k 0 ≡ 0
 
 -- m is the length of the prefix of value's code: the place of the highest one in value + 1
 pub record Prefix (value m : ℕ) : Type 0 where

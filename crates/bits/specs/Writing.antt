@@ -1,15 +1,14 @@
 -- WRITING, AND READING BACK: what the laws of proofs/Writing.antt and proofs/WriteRead.antt say, with the answers' names passed on shut.
-use Rattle.std.specs.Prelude.{ℕ, ◌+◌, ◌/◌, ◌≤◌, ◌<◌, ◌≡◌, List, [], ◌∷◌, ◌++◌, Bool, true, length, take, drop, ℤ}
+use Rattle.std.specs.Prelude.{ℕ, ◌+◌, ◌/◌, ◌≤◌, ◌<◌, ◌≡◌, List, [], ◌∷◌, ◌++◌, Bool, true, length, take, drop, ℤ, Ok}
 use Rattle.desk.specs.Numbers.{most, too_long, bad_state, bad_width, no_code, no_room}
 use Rattle.bits.specs.Rule.{bits, bits_of, URange, ue_code, UeRange, se_code, SeRange}
 pub use Rattle.bits.specs.Rule.{trailing_bits}
 pub use Rattle.bits.specs.Step.{Good, Wrote, wrote, kept, writer}
 use Rattle.bits.specs.Answer.{got, read_bits, read_bit, read_ue, read_se}
-pub use Rattle.bits.specs.Answer.{new_writer, bad_writer, Writes, outcome, wrote_number, put_back, room_back}
+pub use Rattle.bits.specs.Answer.{new_writer, bad_writer, Writes, outcome, wrote_told, wrote_number, writer_back, room_back}
 pub use Rattle.bits.specs.Answer.{write_bits, write_bit, write_ue, write_se, write_trailing}
 use Rattle.bits.specs.Reading.{bit_code}
 use Rattle.bits.specs.declared.BitWriter.{BitWriter}
-use Rattle.bits.specs.declared.Put.TheVariants.{Done}
 
 -- the bits that a writer stands for: those of the bytes written, then the pending ones
 abbrev pub content : List ℕ → BitWriter → List ℕ
@@ -83,7 +82,7 @@ ReadsField s p (se z) q = read_se s p ≡ got z q
 pub data WritesFields : List ℕ → BitWriter → List Field → List ℕ → BitWriter → Type 0 where
   nothing : {o : List ℕ} {st : BitWriter} → WritesFields o st [] o st
   one_more : {o o₁ o₂ : List ℕ} {st st₁ st₂ : BitWriter} {f : Field} {fs : List Field}
-      → Writes st (Done st₁) o₁ (write_field o st f) → WritesFields o₁ st₁ fs o₂ st₂ → WritesFields o st (f ∷ fs) o₂ st₂
+      → Writes st st₁ (Ok tt) o₁ (write_field o st f) → WritesFields o₁ st₁ fs o₂ st₂ → WritesFields o st (f ∷ fs) o₂ st₂
 
 -- the fields are read one after the other, from p up to q
 pub data ReadBack (s : List ℕ) : ℕ → List Field → ℕ → Type 0 where

@@ -2,9 +2,9 @@
 ghost use Rattle.std.specs.Prelude.{◌≡◌, ◌<◌, negsuc};
 ghost use Rattle.bits.specs.Rule.{signed_of, unsigned_of};
 ghost use Rattle.bits.specs.Step.{Prefix};
-ghost use Rattle.bits.specs.Answer.{mapped, mapped_back};
+ghost use Rattle.bits.specs.Answer.{mapped, told_by};
 
-use super::Mapped;
+use desk::Refusal;
 
 // Odd k stands for (k + 1) / 2, even k for -(k / 2).
 pub(crate) fn signed_of(k: u32) -> i32
@@ -19,13 +19,13 @@ pub(crate) fn signed_of(k: u32) -> i32
 }
 
 // The same, asked for by itself: 2^32-1, which no code has, is refused.
-pub fn golomb_to_signed(val: u32) -> Mapped
-    ensures { result ≡ mapped_back (mapped val) }
+pub fn golomb_to_signed(val: u32) -> Result<i32, Refusal>
+    ensures { told_by result ≡ mapped val }
 {
     if val == u32::MAX {
-        return Mapped::Refused(desk::NO_CODE);
+        return Err(Refusal::NoCode);
     }
-    Mapped::Value(signed_of(val))
+    Ok(signed_of(val))
 }
 
 // And back: 0, 1, -1, 2, -2 are 0, 1, 2, 3, 4.
@@ -33,11 +33,8 @@ pub(crate) fn unsigned_of(value: i32) -> u32
     requires { value ≡ negsuc 2147483647 → ⊥ }
     ensures { result ≡ unsigned_of value }
 {
-    if value > 0 {
-        (value as u32) * 2 - 1
-    } else {
-        ((-value) as u32) * 2
-    }
+    let twice = 2 * value.unsigned_abs();
+    if value > 0 { twice - 1 } else { twice }
 }
 
 // The zeros before the one of value's code: the place of the highest one in value + 1.

@@ -1,17 +1,18 @@
 -- What is told over a whole trace: the rule's units, by their lengths, and their number.
 use Rattle.std.proofs.Common.{◌≡◌, ℕ, ◌+◌, ◌%◌, false, cond, List, [], ◌∷◌, ◌++◌, map, length, take}
-use Rattle.std.proofs.Common.{sym, refl, ap, ◌∙◌, ap₂, add-zero, zero-add, arith, length-append}
+use Rattle.std.proofs.Common.{Ok, sym, refl, ap, ◌∙◌, ap₂, add-zero, zero-add, arith, length-append}
 use mathlib.Core.Path.{subst⁻¹}
 use mathlib.Core.List.{map-append, append_cancel_left, head-eq_of_cons-eq, tail-eq_of_cons-eq}
 use lib.ListN.{length-map}
 use Rattle.desk.specs.Search.{unheld}
 use Rattle.desk.specs.Room.{with_front}
 use Rattle.desk.specs.Push.{shifted, Seen}
+use Rattle.desk.specs.Steps.{pushed_of}
+use Rattle.desk.specs.declared.push.Pushed.{Pushed}
 use Rattle.desk.proofs.Room.{front}
 use Rattle.annexb.specs.declared.AnnexBReader.{AnnexBReader}
-use Rattle.annexb.specs.declared.Pushed.{Pushed}
 use Rattle.annexb.specs.Rule.{Frame, frame, frame_from, joined, ends_from, units_at_reset}
-use Rattle.annexb.specs.Answer.{reset_answer, Gave}
+use Rattle.annexb.specs.Answer.{FrameReset}
 use Rattle.annexb.specs.Calls.{Calls}
 use Rattle.annexb.proofs.Framing.{split}
 use Rattle.annexb.proofs.Following.{joined_append, ends_append}
@@ -81,7 +82,8 @@ module _ {us : List (List ℕ)} {o : ℕ} {t : Tally} {told : List ℕ} (c : Cou
 
 pub listing_calls : {h : List ℕ} {s : AnnexBReader} {g e : List ℕ} {t : Tally} {told : List ℕ} → Listing h s g e t told → Calls [] h s g e
 listing_calls Listing.none_yet = Calls.none_yet
-listing_calls (Listing.pushed l chunk room marks room' marks' marks'' r t' o d) = Calls.pushed (listing_calls l) chunk room marks room' marks' r o
+listing_calls (Listing.pushed l chunk room marks s' room' marks' marks'' r t' o d) =
+    Calls.pushed (listing_calls l) chunk room marks s' room' marks' r o
 
 -- the bytes of the open unit that were given
 abbrev pub open_bytes : List ℕ → ℕ
@@ -97,39 +99,39 @@ ends_are c = ap (λ (v : Seen AnnexBReader). v.ends) (sym (calls_rule c).open_sp
 pub listing_rule : {h : List ℕ} {s : AnnexBReader} {g e : List ℕ} {t : Tally} {told : List ℕ} → Listing h s g e t told
     → Counted (frame h).closed (open_bytes h) t told
 listing_rule Listing.none_yet = record { lengths_told = refl; units_told = refl; bytes_told = refl }
-listing_rule (Listing.pushed {h} {s} {g} {e} {t} {told} l chunk room marks room' marks' marks'' r t' o d) =
+listing_rule (Listing.pushed {h} {s} {g} {e} {t} {told} l chunk room marks s' room' marks' marks'' r t' o d) =
+    let p = pushed_of r in
     let c = listing_calls l in
-    let new_bytes = take r.taken chunk in
+    let new_bytes = take p.taken chunk in
     let h' = h ++ new_bytes in
     let f = frame h in
     let vs = (frame_from f.in_unit (f.rest ++ new_bytes)).closed in
     let closed : (frame h').closed ≡ f.closed ++ vs = ap (λ (x : Frame). x.closed) (split false h new_bytes) in
-    let c' = Calls.pushed c chunk room marks room' marks' r o in
-    let all : length (joined (frame h').closed) + open_bytes h' ≡ length g + r.written =
-    sym (given_long c') ∙ length-append g (take r.written room') ∙ ap (λ (n : ℕ). length g + n) (ap length (gave_bytes o) ∙ sym o.wrote_is) in
-    let at_ends : ends_from 0 (frame h').closed ≡ ends_from 0 f.closed ++ shifted (length g) (take r.marked marks') =
-    sym (ends_are c') ∙ ap (λ (l : List ℕ). l ++ shifted (length g) (take r.marked marks')) (ends_are c) in
-    subst⁻¹ (λ (us : List (List ℕ)). Counted us (open_bytes h') t' (told ++ take r.marked marks'')) closed
-    (counted_more (listing_rule l) vs (open_bytes h') (length g) r.written (take r.marked marks') marks' marks'' r.marked t'
+    let c' = Calls.pushed c chunk room marks s' room' marks' r o in
+    let all : length (joined (frame h').closed) + open_bytes h' ≡ length g + p.written =
+    sym (given_long c') ∙ length-append g (take p.written room') ∙ ap (λ (n : ℕ). length g + n) (ap length (gave_bytes o) ∙ sym o.wrote_is) in
+    let at_ends : ends_from 0 (frame h').closed ≡ ends_from 0 f.closed ++ shifted (length g) (take p.marked marks') =
+    sym (ends_are c') ∙ ap (λ (l : List ℕ). l ++ shifted (length g) (take p.marked marks')) (ends_are c) in
+    subst⁻¹ (λ (us : List (List ℕ)). Counted us (open_bytes h') t' (told ++ take p.marked marks'')) closed
+    (counted_more (listing_rule l) vs (open_bytes h') (length g) p.written (take p.marked marks') marks' marks'' p.marked t'
     refl (o.marked_is ∙ sym (ap length (gave_marks o))) (given_long c)
     (ap (λ (us : List (List ℕ)). length (joined us) + open_bytes h') (sym closed) ∙ all) (ap (ends_from 0) (sym closed) ∙ at_ends) d)
 
 -- AFTER A RESET AT THE END: ALL UNITS OF THE RULE
 pub listing_reset : {h : List ℕ} {s : AnnexBReader} {g e : List ℕ} {t : Tally} {told : List ℕ} → Listing h s g e t told
-    → (room marks room' marks' marks'' : List ℕ) (r : Pushed) (t' : Tally)
-    → Gave (reset_answer s (length room) (length marks)) room marks room' marks' r → r.number ≡ 0
-    → Tallied t marks' r.marked r.written marks'' t'
-    → Counted (units_at_reset h) 0 t' (told ++ take r.marked marks'')
-listing_reset {h} {s} {g} {e} {t} {told} l room marks room' marks' marks'' r t' o z d =
+    → (room marks : List ℕ) (s' : AnnexBReader) (room' marks' marks'' : List ℕ) (p : Pushed) (t' : Tally)
+    → FrameReset s room marks s' room' marks' (Ok p) → Tallied t marks' p.marked p.written marks'' t'
+    → Counted (units_at_reset h) 0 t' (told ++ take p.marked marks'')
+listing_reset {h} {s} {g} {e} {t} {told} l room marks s' room' marks' marks'' p t' o d =
     let c = listing_calls l in
     let f = frame h in
-    let w = (calls_rule (Calls.reset_done c room marks room' marks' r o z)).closed_spans.0 in
-    let all : length (joined (units_at_reset h)) + 0 ≡ length g + r.written =
+    let w = (calls_rule (Calls.reset_done c room marks s' room' marks' p o)).closed_spans.0 in
+    let all : length (joined (units_at_reset h)) + 0 ≡ length g + p.written =
     add-zero _
     ∙ ap length (sym w.bytes_are)
-    ∙ length-append g (take r.written room')
+    ∙ length-append g (take p.written room')
     ∙ ap (λ (n : ℕ). length g + n) (ap length (gave_bytes o) ∙ sym o.wrote_is) in
-    let at_ends : ends_from 0 (units_at_reset h) ≡ ends_from 0 f.closed ++ shifted (length g) (take r.marked marks') =
-    sym w.ends_are ∙ ap (λ (l : List ℕ). l ++ shifted (length g) (take r.marked marks')) (ends_are c) in
-    counted_more (listing_rule l) (cond f.in_unit (f.rest ∷ []) []) 0 (length g) r.written (take r.marked marks') marks' marks'' r.marked
+    let at_ends : ends_from 0 (units_at_reset h) ≡ ends_from 0 f.closed ++ shifted (length g) (take p.marked marks') =
+    sym w.ends_are ∙ ap (λ (l : List ℕ). l ++ shifted (length g) (take p.marked marks')) (ends_are c) in
+    counted_more (listing_rule l) (cond f.in_unit (f.rest ∷ []) []) 0 (length g) p.written (take p.marked marks') marks' marks'' p.marked
     t' refl (o.marked_is ∙ sym (ap length (gave_marks o))) (given_long c) all at_ends d

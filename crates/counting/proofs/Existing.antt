@@ -1,16 +1,20 @@
 -- THERE IS A LISTING OF EVERY STREAM, however it is cut, with as little room as three bytes and a mark.
 use Rattle.std.proofs.Common.{◌≡◌, ℕ, zero, suc, ◌+◌, ◌-◌, ◌%◌, ◌≤◌, ltb, List, [], ◌∷◌, ◌++◌, length, take, drop}
-use Rattle.std.proofs.Common.{sym, refl, ap, ◌∙◌, subst, append_assoc, append-nil, arith, length-drop, take-append-drop, le-ltb}
+use Rattle.std.proofs.Common.{Ok, sym, refl, ap, ◌∙◌, subst, append_assoc, append-nil, arith, length-drop, take-append-drop, le-ltb}
 use Rattle.desk.specs.Numbers.{most}
 use Rattle.desk.specs.Push.{Seen}
 use Rattle.desk.specs.Room.{with_front}
+use Rattle.desk.specs.declared.push.Pushed.{Pushed}
 use Rattle.desk.proofs.Entering.{entry_done}
 use Rattle.desk.proofs.Lists.{trail_few}
+use Rattle.desk.proofs.Running.{gave_done}
+use Rattle.desk.proofs.Taking.{never_7}
+use Rattle.desk.proofs.Ways.{an_outcome}
 use Rattle.annexb.specs.declared.AnnexBReader.{AnnexBReader}
-use Rattle.annexb.specs.declared.Pushed.{Pushed}
 use Rattle.annexb.specs.Rule.{frame}
+use Rattle.annexb.specs.Step.{stepping}
 use Rattle.annexb.specs.Answer.{entering, push_answer}
-use Rattle.annexb.proofs.Laws.{push_takes_one}
+use Rattle.annexb.proofs.Laws.{none_forbidden, push_takes_one}
 use Rattle.annexb.proofs.Calling.{calls_rule}
 use Rattle.counting.specs.declared.Tally.{Tally}
 use Rattle.counting.specs.Tally.{wrap, gap, lengths, last_of}
@@ -40,7 +44,8 @@ push_on {h} x b chunk few =
     entry_done (length (b ∷ chunk) ∷ 3 ∷ 1 ∷ []) (ltb 2 s.zeros) (few, (omega arith, (omega arith, tt))) (le-ltb 2 s.zeros (good x)) in
     let room = with_front (0 ∷ 0 ∷ 0 ∷ []) a.bytes in
     let marks = with_front (0 ∷ []) a.marks in
-    let r : Pushed = record { number = a.number; taken = a.taken; written = length a.bytes; marked = length a.marks; state = a.after } in
+    let r : Pushed = record { taken = a.taken; written = length a.bytes; marked = length a.marks } in
+    let done = never_7 stepping none_forbidden (entering s (length (b ∷ chunk)) 3 1) s (b ∷ chunk) 3 1 ∙ passes in
     let first = gap 0 x.tally.bytes in
     let ends = take r.marked marks in (
       a.taken,
@@ -52,9 +57,9 @@ push_on {h} x b chunk few =
         tally = _;
         told = _;
         listing =
-            Listing.pushed x.listing (b ∷ chunk) (0 ∷ 0 ∷ 0 ∷ []) (0 ∷ []) room marks (with_front marks (lengths first ends)) r
+            Listing.pushed x.listing (b ∷ chunk) (0 ∷ 0 ∷ 0 ∷ []) (0 ∷ []) a.after room marks (with_front marks (lengths first ends)) (Ok r)
             (record { units = (x.tally.units + length ends) % wrap; bytes = gap r.written (last_of first ends) })
-            (record { number_is = refl; taken_is = refl; wrote_is = refl; marked_is = refl; state_is = refl; room = refl; mark_room = refl })
+            (gave_done (an_outcome a (0 ∷ 0 ∷ 0 ∷ []) (0 ∷ [])) done)
             (record { lengths_are = refl; units_is = refl; bytes_is = refl });
       },
     )

@@ -20,10 +20,6 @@ abbrev pub last_of : ℕ → List ℕ → ℕ
 last_of s [] = s
 last_of s (m ∷ ms) = last_of m ms
 
--- the contract of the loop: the first `count` marks give way to their distances, and the last of them is answered
-abbrev pub Distances : List ℕ → ℕ → ℕ → List ℕ → ℕ → Type 0
-Distances marks count start marks' last = (marks' ≡ with_front marks (lengths start (take count marks))) × (last ≡ last_of start (take count marks))
-
 -- no unit yet
 abbrev pub nothing : Tally
 nothing = record { units = 0; bytes = 0 }

@@ -64,10 +64,6 @@ wrote w n x l part h k lx e =
       long = ap length is ∙ simp (length-append, length-drop, length-take) (omega (arith, lx));
     }
 
--- a room of marks that is not there
-pub wrote_none : WroteFront 0 0 [] [] []
-wrote_none = record { count = refl; room = omega arith; front = refl; back = refl; long = refl }
-
 kept : (w n : ℕ) (l l₀ : List ℕ) → drop w l ≡ drop w l₀ → drop (w + n) l ≡ drop (w + n) l₀
 kept w n l l₀ e = sym (drop-drop n w l) ∙ ap (drop n) e ∙ drop-drop n w l₀
 
@@ -92,19 +88,6 @@ pub record Going {S : Type 0} (next : Next S) (chunk out₀ marks₀ : List ℕ)
   pub marks_long : length marks ≡ length marks₀
   pub out_kept : drop w out ≡ drop w out₀
   pub marks_kept : drop m marks ≡ drop m marks₀
-
-pub going_none : {S : Type 0} (next : Next S) (chunk out marks : List ℕ) (s : S) → Going next chunk out marks s out marks s 0 0 0
-going_none next chunk out marks s =
-    record {
-      same = refl;
-      few = omega arith;
-      out_few = omega arith;
-      marks_few = omega arith;
-      out_long = refl;
-      marks_long = refl;
-      out_kept = refl;
-      marks_kept = refl;
-    }
 
 answer_is : {S : Type 0} (t : ℕ) {b b' m m' : List ℕ} {s : S} → b ≡ b' → m ≡ m'
     → ◌≡◌ {A = Answer S} (record { number = 0; taken = t; bytes = b; marks = m; after = s })
@@ -175,25 +158,25 @@ module _ {S : Type 0} {next : Next S} {chunk out₀ marks₀ : List ℕ} {s₀ :
       ∙ run_ends next (length out₀) (length marks₀) _
 
   -- what the call then returns, by what the run came to
-  module _ (entry : ℕ) (z : entry ≡ 0) where
-    goes : push_of next entry s₀ chunk (length out₀) (length marks₀) ≡ run next (length out₀) (length marks₀) (answers 0 s₀) chunk
-    unfolding push_of
-    goes = rw z
+  pub gives : (n : ℕ) → Ran (record { number = n; taken = t; bytes = take w out; marks = take m marks; after = s })
+      → Gives (run next (length out₀) (length marks₀) (answers 0 s₀) chunk) out₀ marks₀ out marks n t w m s
+  gives n q =
+      subst⁻¹ (λ (a : Answer S). Gives a out₀ marks₀ out marks n t w m s) q
+      (record {
+        number_is = refl;
+        taken_is = refl;
+        wrote_is = sym out_len;
+        marked_is = sym marks_len;
+        state_is = refl;
+        room = whole w out out₀ g.out_few g.out_kept;
+        mark_room = whole m marks marks₀ g.marks_few g.marks_kept;
+      })
 
-    pub gives : (n : ℕ) → Ran (record { number = n; taken = t; bytes = take w out; marks = take m marks; after = s })
-        → Gives (push_of next entry s₀ chunk (length out₀) (length marks₀)) out₀ marks₀ out marks n t w m s
-    gives n q =
-        subst⁻¹ (λ (a : Answer S). Gives a out₀ marks₀ out marks n t w m s) (goes ∙ q)
-        (record {
-          number_is = refl;
-          taken_is = refl;
-          wrote_is = sym out_len;
-          marked_is = sym marks_len;
-          state_is = refl;
-          room = whole w out out₀
-              g.out_few g.out_kept;
-          mark_room = whole m marks marks₀ g.marks_few g.marks_kept;
-        })
+-- a push that passes its entry checks runs
+pub push_runs : {S : Type 0} (next : Next S) (entry : ℕ) (s : S) (chunk : List ℕ) (w m : ℕ) → entry ≡ 0
+    → push_of next entry s chunk w m ≡ run next w m (answers 0 s) chunk
+unfolding push_of
+push_runs next entry s chunk w m z = rw z
 
 -- a call that answers a number alone
 pub gives_alone : {S : Type 0} (n : ℕ) (s : S) (out marks : List ℕ) → Gives (answers n s) out marks out marks n 0 0 0 s

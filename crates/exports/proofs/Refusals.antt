@@ -1,32 +1,38 @@
 -- A REFUSAL WRITES ITS ANSWER AND NOTHING ELSE. Where an exported function tells a number other than 0, whatever else it was lent is as it
 -- came, and behind the number stand the place or the state as it came, and 0 for everything else. Number 7 is told apart: a push of the byte
 -- reader has then taken and delivered all before the forbidden byte, and decode_nal tells that byte's index.
-use Prim.Native.Nat.{ℕ, zero, suc}
+use Prim.Native.Nat.{ℕ}
 use mathlib.Core.Path.{◌≡◌, refl, sym, ap, subst, ◌∙◌}
-use mathlib.Core.Bool.{Bool, true, false, cond}
+use mathlib.Core.Bool.{Bool, cond}
 use mathlib.Core.List.{List, [], ◌∷◌}
 use mathlib.Core.Option.{Option, none, some}
 use native.Mathlib.Omega.{arith}
 use lib.ListN.{length, drop, get_or}
-use lib.Dec.{eqb, ltb}
+use lib.Dec.{ltb}
 use lib.IntN.{ℤ}
+use Rattle.std.specs.Prelude.{Result, Ok, Err}
 use Rattle.desk.specs.Numbers.{any_over}
 use Rattle.desk.specs.Search.{is3, first}
-use Rattle.desk.specs.Push.{Out, Next, Answer, answers, took, fits, run, push_of, Gives}
+use Rattle.desk.specs.Push.{Answer, answers, Gives}
+use Rattle.desk.specs.Refusing.{answered}
 use Rattle.desk.specs.Room.{with_front}
+use Rattle.desk.specs.declared.push.Pushed.{Pushed}
+use Rattle.desk.specs.declared.refusal.Refusal.{Refusal}
 use Rattle.desk.proofs.Choice.{cond_ind}
-use Rattle.desk.proofs.Pushing.{run_ends, run_takes, run_stops, run_forbidden}
 use Rattle.desk.proofs.Room.{with_front_none}
 use Rattle.desk.proofs.Taking.{push_refused}
 use Rattle.rbsp.specs.declared.reader.ParseState.{ParseState}
-use Rattle.rbsp.specs.declared.reader.ParseState.TheVariants.{Start, Skip, PostThree}
-use Rattle.rbsp.specs.declared.reader.Pushed.{Pushed}
+use Rattle.rbsp.specs.declared.reader.Stopped.{Stopped}
+use Rattle.rbsp.specs.declared.reader.Stopped.TheVariants.{Refused, Forbidden as Stop}
 use Rattle.rbsp.specs.declared.writer.ByteWriter.{ByteWriter}
 use Rattle.rbsp.specs.declared.nal.Decoded.{Decoded}
-use Rattle.rbsp.specs.declared.nal.Decoded.TheVariants.{Own, Filled, TooLong, Empty, Forbidden, NoRoom}
+use Rattle.rbsp.specs.declared.nal.Decoded.TheVariants.{Own, Filled}
+use Rattle.rbsp.specs.declared.nal.Undecoded.{Undecoded}
+use Rattle.rbsp.specs.declared.nal.Undecoded.TheVariants.{TooLong, Empty, Forbidden, NoRoom}
 use Rattle.rbsp.specs.Rule.{unescape, first_break}
-use Rattle.rbsp.specs.Step.{read_step, read_entry, stuffs, write_step, write_entry}
-use Rattle.rbsp.specs.Answer.{Decoding, refuses, decode_kept, decode_tail, decode_nal, decode_of, number_of}
+use Rattle.rbsp.specs.Step.{write_step, write_entry}
+use Rattle.rbsp.specs.Answer.{Decoding, refuses, decode_kept, decode_tail, decode_nal, decode_of, number_of, ReadPush}
+use Rattle.rbsp.proofs.Rooms.{write_number}
 use Rattle.annexb.specs.declared.AnnexBReader.{AnnexBReader}
 use Rattle.annexb.specs.Answer.{entering}
 use Rattle.annexb.specs.Step.{stepping}
@@ -34,22 +40,19 @@ use Rattle.annexb.proofs.Laws.{push_number}
 use Rattle.annexb.proofs.Completing.{reset_kept}
 use Rattle.bits.specs.declared.BitReader.{BitReader}
 use Rattle.bits.specs.declared.BitWriter.{BitWriter}
-use Rattle.bits.specs.declared.Mapped.{Mapped}
-use Rattle.bits.specs.declared.Put.{Put}
-use Rattle.bits.specs.Reading.{Ans, got, no, Told, told, denied, told_number, mapped_answer}
-use Rattle.bits.specs.Writing.{Wrote, wrote, kept, Writes, WriteMeans, Field, code_of, HasCode, without, write_field, write_trailing}
+use Rattle.bits.specs.Reading.{Ans, got, no, Told}
+use Rattle.bits.specs.Writing.{Wrote, wrote, kept, writer, Writes, outcome, writer_back, WriteMeans, Field, code_of, HasCode, without}
+use Rattle.bits.specs.Writing.{write_field, write_trailing}
+use Rattle.bits.proofs.Back.{refused_stays, read_is, outcome_back}
 use Rattle.bits.proofs.Writing.{field_means, trailing_means}
 use Rattle.pps.specs.declared.Geometry.{Geometry}
 use Rattle.pps.specs.declared.SliceRect.{SliceRect}
-use Rattle.pps.specs.declared.SliceGroupRead.{SliceGroupRead}
 use Rattle.pps.specs.Rule.{Fields}
-use Rattle.pps.specs.Answer.{GroupsGiven}
-use Rattle.exports.specs.Escaping.{reader_of, read_state, read_numbers, FrontsRead, FrontsWrite, decode_numbers, FrontsDecode}
+use Rattle.pps.specs.Answer.{result_of, ids_given}
+use Rattle.exports.specs.Escaping.{reader_of, read_numbers, FrontsRead, FrontsWrite, decode_numbers, FrontsDecode}
 use Rattle.exports.specs.Framing.{FrontsFrame, FrontsPush, FrontsReset}
-use Rattle.exports.specs.Bits.{bits_numbers, FrontsBits, bit_numbers, FrontsBit, moved_numbers, FrontsMoved, more_numbers, FrontsMore}
-use Rattle.exports.specs.Bits.{signed_numbers, signed_after, FrontsSigned, mapped_after, FrontsMapped, put_state, put_numbers, FrontsPut}
-use Rattle.exports.specs.Groups.{rect_numbers, FrontsRect, groups_numbers, Arrays, arrays_of, FrontsGroups}
-use Rattle.exports.proofs.Lent.{lent_kept}
+use Rattle.exports.specs.Bits.{FrontsField, FrontsBits, FrontsBit, FrontsMoved, FrontsSigned, FrontsMore, FrontsMapped, FrontsPut}
+use Rattle.exports.specs.Groups.{FrontsRect, Arrays, FrontsGroups}
 
 -- what stands behind the number of an answer
 behind : {n : ℕ} {rest l : List ℕ} → n ∷ rest ≡ l → rest ≡ drop 1 l
@@ -59,94 +62,52 @@ behind e = ap (drop 1) e
 head : {n : ℕ} {rest l : List ℕ} → n ∷ rest ≡ l → n ≡ get_or l 0 0
 head e = ap (λ (l : List ℕ). get_or l 0 0) e
 
+-- an answer with another number than 0 is a refusal
+refusal : {A : Type 0} {n : ℕ} (r : Result A Refusal) → (n ≡ 0 → ⊥) → n ≡ answered r → (why : Refusal) × (r ≡ Err why)
+refusal (Ok a) no0 e = absurd (no0 e)
+refusal (Err why) no0 e = (why, refl)
+
 -- ---- pushes
 
-module _ {S : Type 0} (step : Next S) (Q : ℕ → Type 0) (Q0 : Q 0) (Q7 : (s : S) (b : ℕ) → step s b ≡ none → Q 7) where
-  -- a run answers 0, or 7 where a byte is forbidden
-  run_number : (w m : ℕ) (a : Answer S) (bs : List ℕ) → Q a.number → a.number ≡ 0 → Q (run step w m a bs).number
-  run_number w m a [] q z = subst (λ (x : Answer S). Q x.number) (sym (run_ends step w m a)) q
-  run_number w m a (b ∷ bs) q z = go (step a.after b) refl (λ o. run_number w m (took a o) bs q z)
-    where
-      go : (r : Option (Out S)) → step a.after b ≡ r
-          → ((o : Out S) → Q (run step w m (took a o) bs).number) → Q (run step w m a (b ∷ bs)).number
-      go none e ih = subst (λ (x : Answer S). Q x.number) (sym (run_forbidden step w m a b bs e)) (Q7 a.after b e)
-      go (some o) e ih = fit (fits w m a o) refl
-        where
-          fit : (c : Bool) → fits w m a o ≡ c → Q (run step w m a (b ∷ bs)).number
-          fit false d = subst (λ (x : Answer S). Q x.number) (sym (run_stops step w m a b bs o e d)) q
-          fit true d = subst (λ (x : Answer S). Q x.number) (sym (run_takes step w m a b bs o e d)) (ih o)
-
-  -- so a push that tells another number was refused by its entry checks
-  push_alone : (e : ℕ) (s : S) (chunk : List ℕ) (w m : ℕ) → (Q (push_of step e s chunk w m).number → ⊥) → push_of step e s chunk w m ≡ answers e s
-  unfolding push_of
-  push_alone zero s chunk w m h = absurd (h (run_number w m (answers 0 s) chunk Q0 refl))
-  push_alone (suc e) s chunk w m h = push_refused step (suc e) s chunk w m (λ k. let z : ⊥ = omega arith in z)
-
--- what a call that was refused at entry returns and leaves
-record Alone {S : Type 0} (s : S) (out marks out' marks' : List ℕ) (taken wrote marked_n : ℕ) (state : S) : Type 0 where
-  taken_0 : taken ≡ 0
-  wrote_0 : wrote ≡ 0
-  marked_0 : marked_n ≡ 0
-  state_same : state ≡ s
-  out_same : out' ≡ out
-  marks_same : marks' ≡ marks
-
-alone : {S : Type 0} {a : Answer S} {e : ℕ} {s : S} {out marks out' marks' : List ℕ} {number taken wrote marked_n : ℕ} {state : S}
-    → a ≡ answers e s → Gives a out marks out' marks' number taken wrote marked_n state → Alone s out marks out' marks' taken wrote marked_n state
-alone {S} {out = out} {marks = marks} q g =
-    record {
-      taken_0 = g.taken_is ∙ ap (λ (x : Answer S). x.taken) q;
-      wrote_0 = g.wrote_is ∙ ap (λ (x : Answer S). length x.bytes) q;
-      marked_0 = g.marked_is ∙ ap (λ (x : Answer S). length x.marks) q;
-      state_same = g.state_is ∙ ap (λ (x : Answer S). x.after) q;
-      out_same = g.room ∙ ap (λ (x : Answer S). with_front out x.bytes) q ∙ sym (with_front_none out);
-      marks_same = g.mark_room ∙ ap (λ (x : Answer S). with_front marks x.marks) q ∙ sym (with_front_none marks);
-    }
+-- a call that answers a number alone leaves the state and both rooms as they came
+left_alone : {S : Type 0} {a : Answer S} {e : ℕ} {s after : S} {room marks room' marks' : List ℕ} {number taken wrote marked_n : ℕ}
+    → a ≡ answers e s → Gives a room marks room' marks' number taken wrote marked_n after → (after ≡ s) × ((room' ≡ room) × (marks' ≡ marks))
+left_alone {S} {room = room} {marks = marks} q g = (
+  g.state_is ∙ ap (λ (x : Answer S). x.after) q,
+  (
+    g.room ∙ ap (λ (x : Answer S). with_front room x.bytes) q ∙ sym (with_front_none room),
+    g.mark_room ∙ ap (λ (x : Answer S). with_front marks x.marks) q ∙ sym (with_front_none marks),
+  ),
+)
 
 -- ---- escaping
 
-module _ (zeros skip : ℕ) (three : Bool) (r : Pushed) where
-  read_number : get_or (read_numbers zeros skip three r) 0 0 ≡ r.number
-  read_number = cond_ind (λ (l : List ℕ). get_or l 0 0 ≡ r.number) (eqb r.taken 0) _ _ refl (of r.state.state)
-    where
-      of : (s : ParseState) → get_or (read_state r.number r.taken r.written s) 0 0 ≡ r.number
-      of (Start z) = refl
-      of (Skip k) = refl
-      of PostThree = refl
-
-  read_nothing : r.taken ≡ 0 → r.written ≡ 0 → read_numbers zeros skip three r ≡ r.number ∷ 0 ∷ 0 ∷ zeros ∷ skip ∷ cond three 1 0 ∷ []
-  read_nothing t w = rw (t, w)
+-- no byte in front of a room leaves it as it came
+none_in_front : (room bytes : List ℕ) → 0 ≡ length bytes → with_front room bytes ≡ room
+none_in_front room [] e = sym (with_front_none room)
+none_in_front room (b ∷ bs) e = absurd (omega arith)
 
 pub read_refused : (zeros skip : ℕ) (three : Bool) (chunk out out' : List ℕ) {n : ℕ} {rest : List ℕ}
     → FrontsRead zeros skip three chunk out out' (n ∷ rest)
     → (n ≡ 0 → ⊥) → (n ≡ 7 → ⊥) → (rest ≡ 0 ∷ 0 ∷ zeros ∷ skip ∷ cond three 1 0 ∷ []) × (out' ≡ out)
-read_refused zeros skip three chunk out out' {n} {rest} f no0 no7 =
-    let s = reader_of zeros skip three in
-    let e = read_entry s (length chunk) (length out) 0 in
-    let number : n ≡ (push_of read_step e s chunk (length out) 0).number = head f.told ∙ read_number zeros skip three f.r ∙ f.call.number_is in
-    let q =
-    push_alone read_step (λ (k : ℕ). (k ≡ 7 → ⊥) → k ≡ 0) (λ _. refl) (λ s b x h. absurd (h refl)) e s chunk (length out) 0
-    (λ (z : ((push_of read_step e s chunk (length out) 0).number ≡ 7 → ⊥) → (push_of read_step e s chunk (length out) 0).number ≡ 0).
-    no0 (number ∙ z (λ k. no7 (number ∙ k)))) in
-    let l = alone q f.call in
-    (behind (f.told ∙ read_nothing zeros skip three f.r l.taken_0 l.wrote_0), l.out_same)
-
--- no byte is forbidden to the writer
-taken_not_none : (o : Out ByteWriter) → ◌≡◌ {A = Option (Out ByteWriter)} (some o) none → ⊥
-taken_not_none o e = let z : ◌≡◌ {A = ℕ} 0 1 = cc in omega arith
-
-writes_any : (s : ByteWriter) (b : ℕ) → write_step s b ≡ none → ⊥
-writes_any s b = cond_ind (λ (x : Option (Out ByteWriter)). x ≡ none → ⊥) (stuffs s.zero_count b) _ _ (taken_not_none _) (taken_not_none _)
+read_refused zeros skip three chunk out out' {n} {rest} f no0 no7 = of f.r f.after f.told f.call
+  where
+    of : (r : Result Pushed Stopped) (after : ParseState) → n ∷ rest ≡ read_numbers zeros skip three r after
+        → ReadPush (reader_of zeros skip three) after chunk out out' r → (rest ≡ 0 ∷ 0 ∷ zeros ∷ skip ∷ cond three 1 0 ∷ []) × (out' ≡ out)
+    of (Ok all) after t c = absurd (no0 (head t))
+    of (Err (Refused why)) after t c = (behind t, c.gives.room ∙ none_in_front out _ c.gives.wrote_is)
+    of (Err (Stop before)) after t c = absurd (no7 (head t))
 
 pub write_refused : (s : ByteWriter) (chunk out out' : List ℕ) {n : ℕ} {rest : List ℕ} → FrontsWrite s chunk out out' (n ∷ rest)
     → (n ≡ 0 → ⊥) → (rest ≡ 0 ∷ 0 ∷ s.zero_count ∷ []) × (out' ≡ out)
 write_refused s chunk out out' {n} {rest} f no0 =
     let e = write_entry s (length chunk) (length out) 0 in
-    let q =
-    push_alone write_step (λ (k : ℕ). k ≡ 0) refl (λ s b x. absurd (writes_any s b x)) e s chunk (length out) 0
-    (λ (z : (push_of write_step e s chunk (length out) 0).number ≡ 0). no0 (head f.told ∙ f.call.number_is ∙ z)) in
-    let l = alone q f.call in
-    (behind f.told ∙ rw (l.taken_0, l.wrote_0, l.state_same), l.out_same)
+    let why = refusal f.r no0 (head f.told) in
+    let alone =
+    left_alone
+    (push_refused write_step e s chunk (length out) 0 (λ z. no0 (head f.told ∙ write_number s f.after chunk out out' f.r f.call ∙ z)))
+    f.call in
+    (behind f.told ∙ rw (why.1, alone.0), alone.1.0)
 
 -- a NAL that is refused writes nothing
 abbrev WritesNone : Decoding → Type 0
@@ -180,30 +141,31 @@ decode_refused nal room room' {n} {rest} f no0 = (
       ∙ sym (with_front_none room),
 )
   where
-    number : (r : Decoded) → n ∷ rest ≡ decode_numbers r → n ≡ number_of r
-    number Own e = head e
-    number (Filled k) e = head e
-    number TooLong e = head e
-    number Empty e = head e
-    number (Forbidden i) e = head e
-    number NoRoom e = head e
+    number : (r : Result Decoded Undecoded) → n ∷ rest ≡ decode_numbers r → n ≡ number_of r
+    number (Ok Own) e = head e
+    number (Ok (Filled k)) e = head e
+    number (Err TooLong) e = head e
+    number (Err Empty) e = head e
+    number (Err (Forbidden i)) e = head e
+    number (Err NoRoom) e = head e
 
-    of : (r : Decoded) → n ∷ rest ≡ decode_numbers r → (n ≡ 7 → ⊥) → rest ≡ 0 ∷ 0 ∷ []
-    of Own e no7 = behind e
-    of (Filled k) e no7 = absurd (no0 (head e))
-    of TooLong e no7 = behind e
-    of Empty e no7 = behind e
-    of (Forbidden i) e no7 = absurd (no7 (head e))
-    of NoRoom e no7 = behind e
+    of : (r : Result Decoded Undecoded) → n ∷ rest ≡ decode_numbers r → (n ≡ 7 → ⊥) → rest ≡ 0 ∷ 0 ∷ []
+    of (Ok Own) e no7 = behind e
+    of (Ok (Filled k)) e no7 = absurd (no0 (head e))
+    of (Err TooLong) e no7 = behind e
+    of (Err Empty) e no7 = behind e
+    of (Err (Forbidden i)) e no7 = absurd (no7 (head e))
+    of (Err NoRoom) e no7 = behind e
 
 -- ---- framing
 
 frame_refused : {s : AnnexBReader} {a : Answer AnnexBReader} {e : ℕ} {room marks room' marks' : List ℕ} {n : ℕ} {rest : List ℕ}
-    → a ≡ answers e s → FrontsFrame a room marks room' marks' (n ∷ rest)
+    → (n ≡ 0 → ⊥) → a ≡ answers e s → FrontsFrame a room marks room' marks' (n ∷ rest)
     → (rest ≡ 0 ∷ 0 ∷ 0 ∷ cond s.in_unit 1 0 ∷ s.zeros ∷ []) × ((room' ≡ room) × (marks' ≡ marks))
-frame_refused q f =
-    let l = alone q f.call in
-    (behind f.told ∙ rw (l.taken_0, l.wrote_0, l.marked_0, l.state_same), (l.out_same, l.marks_same))
+frame_refused no0 q f =
+    let why = refusal f.r no0 (head f.told) in
+    let alone = left_alone q f.call in
+    (behind f.told ∙ rw (why.1, alone.0), alone.1)
 
 module _ (s : AnnexBReader) (room marks room' marks' : List ℕ) {n : ℕ} {rest : List ℕ} (no0 : n ≡ 0 → ⊥) where
   pub frame_push_refused : (chunk : List ℕ) → FrontsPush s chunk room marks room' marks' (n ∷ rest)
@@ -212,43 +174,40 @@ module _ (s : AnnexBReader) (room marks room' marks' : List ℕ) {n : ℕ} {rest
       let w = length room in
       let m = length marks in
       let e = entering s (length chunk) w m in
-      frame_refused (push_refused stepping e s chunk w m (λ z. no0 (head f.told ∙ f.call.number_is ∙ push_number s chunk w m ∙ z))) f
+      frame_refused no0 (push_refused stepping e s chunk w m (λ z. no0 (head f.told ∙ f.call.number_is ∙ push_number s chunk w m ∙ z))) f
 
   pub frame_reset_refused : FrontsReset s room marks room' marks' (n ∷ rest)
       → (rest ≡ 0 ∷ 0 ∷ 0 ∷ cond s.in_unit 1 0 ∷ s.zeros ∷ []) × ((room' ≡ room) × (marks' ≡ marks))
-  frame_reset_refused f = frame_refused (reset_kept s (length room) (length marks) (λ z. no0 (head f.told ∙ f.call.number_is ∙ z))) f
+  frame_reset_refused f = frame_refused no0 (reset_kept s (length room) (length marks) (λ z. no0 (head f.told ∙ f.call.number_is ∙ z))) f
 
--- ---- bits and rectangles: by what the call gives
+-- ---- bits and rectangles
 
 module _ (from : BitReader) {n : ℕ} {rest : List ℕ} (no0 : n ≡ 0 → ⊥) where
+  read_0 : {A : Type 0} {value : A → ℕ} {a : Ans A} → FrontsField value from a (n ∷ rest) → rest ≡ 0 ∷ from.at.0 ∷ []
+  read_0 f = let why = refusal f.r no0 (head f.told) in behind f.told ∙ rw (why.1, refused_stays f.call why.1)
+
   pub bits_refused : (a : Ans ℕ) → FrontsBits from a (n ∷ rest) → rest ≡ 0 ∷ from.at.0 ∷ []
-  bits_refused (got v q) f = absurd (no0 (head (f.told ∙ ap bits_numbers f.call)))
-  bits_refused (no k) f = behind (f.told ∙ ap bits_numbers f.call)
+  bits_refused a f = read_0 f
 
   pub bit_refused : (a : Ans Bool) → FrontsBit from a (n ∷ rest) → rest ≡ 0 ∷ from.at.0 ∷ []
-  bit_refused (got v q) f = absurd (no0 (head (f.told ∙ ap bit_numbers f.call)))
-  bit_refused (no k) f = behind (f.told ∙ ap bit_numbers f.call)
+  bit_refused a f = read_0 f
 
   pub moved_refused : (a : Ans Unit) → FrontsMoved from a (n ∷ rest) → rest ≡ from.at.0 ∷ []
-  moved_refused (got v q) f = absurd (no0 (head (f.told ∙ ap moved_numbers f.call)))
-  moved_refused (no k) f = behind (f.told ∙ ap moved_numbers f.call)
+  moved_refused a f = let why = refusal f.r no0 (head f.told) in behind f.told ∙ rw (refused_stays f.call why.1)
 
   pub signed_refused : (a : Ans ℤ) (v v' : ℤ) → FrontsSigned from a v v' (n ∷ rest) → (rest ≡ from.at.0 ∷ []) × (v' ≡ v)
-  signed_refused (got z q) v v' f = absurd (no0 (head (f.told ∙ ap signed_numbers f.call.0)))
-  signed_refused (no k) v v' f = (behind (f.told ∙ ap signed_numbers f.call.0), f.call.1 ∙ ap (signed_after v) f.call.0)
+  signed_refused a v v' f =
+      let why = refusal f.r no0 (head f.told) in
+      (behind f.told ∙ rw (refused_stays f.call.0 why.1), f.call.1 ∙ rw why.1)
 
   pub rect_refused : (a : Ans SliceRect) → FrontsRect from a (n ∷ rest) → rest ≡ from.at.0 ∷ 0 ∷ 0 ∷ []
-  rect_refused (got v q) f = absurd (no0 (head (f.told ∙ ap rect_numbers f.call)))
-  rect_refused (no k) f = behind (f.told ∙ ap rect_numbers f.call)
+  rect_refused a f = let why = refusal f.r no0 (head f.told) in behind f.told ∙ rw (refused_stays f.call why.1, why.1)
 
 pub more_refused : {n : ℕ} {rest : List ℕ} → (n ≡ 0 → ⊥) → (a : Told Bool) → FrontsMore a (n ∷ rest) → rest ≡ 0 ∷ []
-more_refused no0 (told true) f = absurd (no0 (head (f.told ∙ ap more_numbers f.call)))
-more_refused no0 (told false) f = absurd (no0 (head (f.told ∙ ap more_numbers f.call)))
-more_refused no0 (denied k) f = behind (f.told ∙ ap more_numbers f.call)
+more_refused no0 a f = let why = refusal f.r no0 (head f.told) in behind f.told ∙ rw why.1
 
 pub mapped_refused : {n : ℕ} → (n ≡ 0 → ⊥) → (a : Told ℤ) (v v' : ℤ) → FrontsMapped a v v' n → v' ≡ v
-mapped_refused no0 (told z) v v' f = absurd (no0 (f.number_is ∙ ap (λ (r : Mapped). told_number (mapped_answer r)) f.call))
-mapped_refused no0 (denied k) v v' f = f.value_is ∙ ap (mapped_after v) f.call
+mapped_refused no0 a v v' f = let why = refusal f.r no0 f.number_is in f.value_is ∙ rw why.1
 
 -- ---- writing bits
 
@@ -262,17 +221,19 @@ means_keeps : (out : List ℕ) (st : BitWriter) (code : List ℕ) (Has : Type 0)
 means_keeps out st code Has without (wrote st' o) h = tt
 means_keeps out st code Has without (kept k o) h = h.0
 
-put_kept : {from : BitWriter} {r : Put} {out out' : List ℕ} {n : ℕ} {rest : List ℕ} → (n ≡ 0 → ⊥) → n ∷ rest ≡ put_numbers r
-    → (a : Wrote) → KeepsRoom out a → Writes from r out' a → (rest ≡ drop 1 (put_state 0 from)) × (out' ≡ out)
-put_kept no0 t (wrote st o) k c = absurd (no0 (head (t ∙ ap put_numbers c.answers)))
-put_kept no0 t (kept j o) k c = (behind (t ∙ ap put_numbers c.answers), c.memory ∙ k)
+put_kept : {from after : BitWriter} {r : Result Unit Refusal} {out out' : List ℕ} {a : Wrote} {why : Refusal} → Writes from after r out' a
+    → r ≡ Err why → KeepsRoom out a → (after ≡ from) × (out' ≡ out)
+put_kept {from} {after} {out = out} {out' = out'} w q keeps =
+    let k = sym (outcome_back w) ∙ ap (λ (x : Result Unit Refusal). outcome x after out') q in
+    (w.writer ∙ ap (writer_back from) k, subst (KeepsRoom out) k keeps)
 
 module _ (w p c : ℕ) (out out' : List ℕ) {n : ℕ} {rest : List ℕ} (no0 : n ≡ 0 → ⊥) where
   put_refused : (by : BitWriter → Wrote) → ((s : BitWriter) → KeepsRoom out (by s)) → FrontsPut w p c out' by (n ∷ rest)
       → (rest ≡ w ∷ p ∷ c ∷ []) × (out' ≡ out)
   put_refused by keeps f =
-      let e = put_kept no0 f.told (by f.from) (keeps f.from) f.call in
-      (e.0 ∙ ap (λ (s : BitWriter). drop 1 (put_state 0 s)) f.from_is, e.1)
+      let why = refusal f.r no0 (head f.told) in
+      let e = put_kept f.call why.1 (keeps (writer w p c)) in
+      (behind f.told ∙ rw e.0, e.1)
 
   -- write, write_bit, write_ue and write_se
   pub field_refused : (f : Field) → FrontsPut w p c out' (λ s. write_field out s f) (n ∷ rest) → (rest ≡ w ∷ p ∷ c ∷ []) × (out' ≡ out)
@@ -287,14 +248,17 @@ module _ (w p c : ℕ) (out out' : List ℕ) {n : ℕ} {rest : List ℕ} (no0 : 
 
 -- ---- slice groups
 
-groups_kept : {from : BitReader} {m : ℕ} {ids ids' : List ℕ} {r : SliceGroupRead} {n : ℕ} {rest : List ℕ} → (n ≡ 0 → ⊥)
-    → n ∷ rest ≡ groups_numbers r → (a : Ans Fields) → GroupsGiven from m a ids r ids' → (rest ≡ from.at.0 ∷ 0 ∷ 0 ∷ []) × (ids' ≡ ids)
-groups_kept no0 t (got f q) g = absurd (no0 (head (t ∙ ap groups_numbers g.answers)))
-groups_kept {ids = ids} no0 t (no k) g = (behind (t ∙ ap groups_numbers g.answers), g.memory ∙ sym (with_front_none ids))
+-- a refused read gives no ids
+no_ids : (m : ℕ) (a : Ans Fields) {k : ℕ} → result_of m a ≡ no k → ids_given a ≡ []
+no_ids m (got f q) e = cc
+no_ids m (no j) e = refl
 
 pub groups_refused : (s : List ℕ) (from : BitReader) (m : ℕ) (g : Geometry) (ids ids' : List ℕ) (lent lent' : Arrays) {n : ℕ} {rest : List ℕ}
     → (n ≡ 0 → ⊥) → FrontsGroups s from m g ids lent ids' (n ∷ rest) lent'
     → (rest ≡ from.at.0 ∷ 0 ∷ 0 ∷ []) × ((ids' ≡ ids) × (lent' ≡ lent))
 groups_refused s from m g ids ids' lent lent' no0 f =
-    let e = groups_kept no0 f.told _ f.call in
-    (e.0, (e.1, f.filled ∙ sym (lent_kept f.r.number (arrays_of f.r.groups) (λ z. no0 (head f.told ∙ z)))))
+    let why = refusal f.r no0 (head f.told) in
+    let none = no_ids m _ (read_is f.call.read why.1) in (
+      behind f.told ∙ rw (refused_stays f.call.read why.1, why.1),
+      (f.call.memory ∙ ap (with_front ids) none ∙ sym (with_front_none ids), f.filled ∙ rw why.1),
+    )

@@ -1,39 +1,32 @@
 -- The numbers of the answers of `pps`.
-use Rattle.std.specs.Prelude.{ℕ, ◌≡◌, cond, List, [], ◌∷◌, get_or}
-use Rattle.desk.specs.Numbers.{done}
-use Rattle.bits.specs.Reading.{Ans}
+use Rattle.std.specs.Prelude.{ℕ, ◌≡◌, cond, List, [], ◌∷◌, get_or, Result}
+use Rattle.desk.specs.Refusing.{answered}
+use Rattle.desk.specs.declared.refusal.Refusal.{Refusal}
+use Rattle.bits.specs.Reading.{Ans, Reads}
 use Rattle.bits.specs.declared.BitReader.{BitReader}
 use Rattle.pps.specs.declared.Geometry.{Geometry}
 use Rattle.pps.specs.declared.SliceRect.{SliceRect}
-use Rattle.pps.specs.declared.Rect.{Rect}
-use Rattle.pps.specs.declared.Rect.TheVariants.{Value, Refused}
-use Rattle.pps.specs.declared.SliceGroupChangeType.{SliceGroupChangeType}
-use Rattle.pps.specs.declared.SliceGroupChangeType.TheVariants.{BoxOut, RasterScan, WipeOut}
 use Rattle.pps.specs.declared.SliceGroup.{SliceGroup}
 use Rattle.pps.specs.declared.SliceGroup.TheVariants.{Interleaved, Dispersed, ForegroundAndLeftover, Changing, ExplicitAssignment}
-use Rattle.pps.specs.declared.SliceGroups.{SliceGroups}
 use Rattle.pps.specs.declared.SliceGroupRead.{SliceGroupRead}
-use Rattle.pps.specs.Answer.{ReadsRect, ReadsGroups, no_rect}
-use Rattle.exports.specs.Fronts.{Fronts, lent_after}
+use Rattle.pps.specs.Answer.{ReadsGroups, change_number, no_rect}
+use Rattle.exports.specs.Fronts.{FrontsOn, value_of, lent_after}
 
 abbrev pub picture_of : ℕ → ℕ → Geometry
 picture_of width size = record { pic_width_in_mbs = width; pic_size_in_map_units = size }
 
 -- ---- a rectangle: the number, the place behind it, and its two corners
 
-abbrev pub rect_numbers : Rect → List ℕ
-rect_numbers (Value v r) = done ∷ r.at.0 ∷ v.top_left ∷ v.bottom_right ∷ []
-rect_numbers (Refused n r) = n ∷ r.at.0 ∷ 0 ∷ 0 ∷ []
+abbrev pub pair_of : SliceRect → List ℕ
+pair_of rect = rect.top_left ∷ rect.bottom_right ∷ []
+
+abbrev pub rect_numbers : Result SliceRect Refusal → BitReader → List ℕ
+rect_numbers r after = answered r ∷ after.at.0 ∷ value_of (λ v. v.top_left) r ∷ value_of (λ v. v.bottom_right) r ∷ []
 
 abbrev pub FrontsRect : BitReader → Ans SliceRect → List ℕ → Type 0
-FrontsRect from a = Fronts (λ (r : Rect). ReadsRect from r a) rect_numbers
+FrontsRect from a = FrontsOn (λ (r : Result SliceRect Refusal) after. Reads from after r a) rect_numbers
 
 -- ---- slice groups
-
-abbrev pub change_number : SliceGroupChangeType → ℕ
-change_number BoxOut = 3
-change_number RasterScan = 4
-change_number WipeOut = 5
 
 -- the map type; the direction, 1 or 0; the rate; and pic_size_in_map_units_minus1: each 0 where the map type has none
 abbrev pub group_numbers : SliceGroup → List ℕ
@@ -44,8 +37,8 @@ group_numbers (Changing t flag rate) = change_number t ∷ cond flag 1 0 ∷ rat
 group_numbers (ExplicitAssignment last) = 6 ∷ 0 ∷ 0 ∷ last ∷ []
 
 -- the number, the place behind the last field, num_slice_groups_minus1, and the count of ids
-abbrev pub groups_numbers : SliceGroupRead → List ℕ
-groups_numbers r = r.number ∷ r.reader.at.0 ∷ r.groups.num_slice_groups_minus1 ∷ r.ids ∷ []
+abbrev pub groups_numbers : Result SliceGroupRead Refusal → BitReader → List ℕ
+groups_numbers r after = answered r ∷ after.at.0 ∷ value_of (λ v. v.groups.num_slice_groups_minus1) r ∷ value_of (λ v. v.ids) r ∷ []
 
 -- the corners of the rectangle at i, before those behind it
 abbrev pub corners_at : List SliceRect → ℕ → List ℕ → List ℕ
@@ -65,13 +58,14 @@ pub record Arrays : Type 0 where
 abbrev pub arrays : List ℕ → List ℕ → List ℕ → Arrays
 arrays group runs rects = record { group = group; runs = runs; rects = rects }
 
-abbrev pub arrays_of : SliceGroups → Arrays
-arrays_of g = arrays (group_numbers g.group) g.run_length_minus1 (corner_numbers g.rectangles)
+abbrev pub arrays_of : SliceGroupRead → Arrays
+arrays_of v = arrays (group_numbers v.groups.group) v.groups.run_length_minus1 (corner_numbers v.groups.rectangles)
 
 -- the call's own contract, its answer, and the arrays: as they came where it was refused
 pub record FrontsGroups (s : List ℕ) (from : BitReader) (n : ℕ) (g : Geometry) (ids : List ℕ) (lent : Arrays)
     (ids' answer' : List ℕ) (lent' : Arrays) : Type 0 where
-  pub r : SliceGroupRead
-  pub call : ReadsGroups s from n g ids r ids'
-  pub told : answer' ≡ groups_numbers r
-  pub filled : lent' ≡ lent_after r.number (arrays_of r.groups) lent
+  pub r : Result SliceGroupRead Refusal
+  pub after : BitReader
+  pub call : ReadsGroups s from n g ids after r ids'
+  pub told : answer' ≡ groups_numbers r after
+  pub filled : lent' ≡ lent_after arrays_of lent r

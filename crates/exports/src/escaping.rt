@@ -1,69 +1,52 @@
 // Escaping: the calls of `rbsp`.
 ghost use Rattle.std.specs.Prelude.{◌≡◌};
-ghost use Rattle.exports.specs.Escaping.{reader_of, read_numbers, FrontsRead, writer_of, write_numbers, FrontsWrite, decode_numbers, FrontsDecode};
+ghost use Rattle.exports.specs.Escaping.{reader_of, state_numbers, stop_numbers, FrontsRead, writer_of, FrontsWrite, decode_numbers, FrontsDecode};
 
-use super::numbers::{flag, wide};
-use rbsp::nal::{Decoded, decode_nal};
-use rbsp::reader::{ByteReader, ParseState, Pushed};
-use rbsp::writer::{ByteWriter, Written};
+use super::numbers::pushed;
+use desk::{Pushed, Refusal};
+use rbsp::nal::{Decoded, Undecoded, decode_nal};
+use rbsp::reader::{ByteReader, ParseState, Stopped};
+use rbsp::writer::ByteWriter;
 
 // Any three numbers are a state.
 fn reader_of(zeros: u8, skip: usize, post_three: bool) -> ByteReader
     ensures { result.state ≡ reader_of zeros skip post_three }
 {
-    if post_three {
-        return ByteReader {
-            state: ParseState::PostThree,
-        };
-    }
-    if skip == 0 {
-        return ByteReader {
-            state: ParseState::Start(zeros),
-        };
-    }
-    ByteReader {
-        state: ParseState::Skip(skip),
-    }
+    let state = match (post_three, skip) {
+        (true, _) => ParseState::PostThree,
+        (false, 0) => ParseState::Start(zeros),
+        (false, _) => ParseState::Skip(skip),
+    };
+    ByteReader { state }
 }
 
-// Where no byte was taken, the numbers of the state go out as they came in.
-fn read_numbers(r: Pushed, zeros: u8, skip: usize, post_three: bool) -> [u64; 6]
-    ensures { result ≡ read_numbers zeros skip post_three r }
+fn state_numbers(state: ParseState) -> [u64; 3]
+    ensures { result ≡ state_numbers state }
 {
-    if r.taken == 0 {
-        return [
-            wide(r.number),
-            0,
-            r.written as u64,
-            wide(zeros),
-            skip as u64,
-            flag(post_three),
-        ];
-    }
-    let reader = r.state;
-    let state = reader.state;
     match state {
-        ParseState::Start(z) => [
-            wide(r.number),
-            r.taken as u64,
-            r.written as u64,
-            wide(z),
-            0,
-            0,
-        ],
-        ParseState::Skip(k) => [
-            wide(r.number),
-            r.taken as u64,
-            r.written as u64,
-            0,
-            k as u64,
-            0,
-        ],
-        ParseState::PostThree => [wide(r.number), r.taken as u64, r.written as u64, 0, 0, 1],
+        ParseState::Start(zeros) => [u64::from(zeros), 0, 0],
+        ParseState::Skip(left) => [0, left as u64, 0],
+        ParseState::PostThree => [0, 0, 1],
     }
 }
 
-// ByteReader::push. The answer: number, bytes taken, bytes written, and the state: zeros, bytes yet to drop, 1 behind a removed 03.
+// The number, the bytes taken and the bytes written.
+fn stop_numbers(answer: Result<Pushed, Stopped>) -> [u64; 3]
+    ensures { result ≡ stop_numbers answer }
+{
+    match answer {
+        Ok(all) => [0, all.taken as u64, all.written as u64],
+        Err(Stopped::Refused(why)) => [u64::from(why.number()), 0, 0],
+        Err(Stopped::Forbidden(before)) => [
+            u64::from(Refusal::ForbiddenByte.number()),
+            before.taken as u64,
+            before.written as u64,
+        ],
+    }
+}
+
+// ByteReader::push. The answer: number, bytes taken, bytes written, and the state: zeros, bytes yet to drop, 1 behind a removed 03. Where no byte was
+// taken, the numbers of the state go out as they came in.
 #[unsafe(no_mangle)]
 pub extern "C" fn dampfeather_byte_reader_push(
     zeros: u8,
@@ -75,20 +58,14 @@ pub extern "C" fn dampfeather_byte_reader_push(
 )
     ensures { FrontsRead zeros skip post_three chunk.now out.old out.new answer.new }
 {
-    let r = reader_of(zeros, skip, post_three).push(chunk, out);
-    *answer = read_numbers(r, zeros, skip, post_three);
-}
-
-fn write_numbers(r: Written) -> [u64; 4]
-    ensures { result ≡ write_numbers r }
-{
-    let state = r.state;
-    [
-        wide(r.number),
-        r.taken as u64,
-        r.written as u64,
-        wide(state.zero_count),
-    ]
+    let mut reader = reader_of(zeros, skip, post_three);
+    let [number, taken, written] = stop_numbers(reader.push(chunk, out));
+    let [zeros, skip, post_three] = if taken == 0 {
+        [u64::from(zeros), skip as u64, u64::from(post_three)]
+    } else {
+        state_numbers(reader.state)
+    };
+    *answer = [number, taken, written, zeros, skip, post_three];
 }
 
 // ByteWriter::push. The answer: number, bytes taken, bytes written, and the state's zeros.
@@ -101,21 +78,19 @@ pub extern "C" fn dampfeather_byte_writer_push(
 )
     ensures { FrontsWrite (writer_of zero_count) chunk.now out.old out.new answer.new }
 {
-    let w = ByteWriter { zero_count };
-    let r = w.push(chunk, out);
-    *answer = write_numbers(r);
+    let mut writer = ByteWriter { zero_count };
+    let [number, taken, written, _] = pushed(writer.push(chunk, out));
+    *answer = [number, taken, written, u64::from(writer.zero_count)];
 }
 
-fn decode_numbers(r: Decoded) -> [u64; 3]
-    ensures { result ≡ decode_numbers r }
+fn decode_numbers(answer: Result<Decoded, Undecoded>) -> [u64; 3]
+    ensures { result ≡ decode_numbers answer }
 {
-    match r {
-        Decoded::Own => [desk::DONE as u64, 0, 0],
-        Decoded::Filled(n) => [desk::DONE as u64, 1, n as u64],
-        Decoded::TooLong => [desk::TOO_LONG as u64, 0, 0],
-        Decoded::Empty => [desk::EMPTY_NAL as u64, 0, 0],
-        Decoded::Forbidden(i) => [desk::FORBIDDEN_BYTE as u64, 0, i as u64],
-        Decoded::NoRoom => [desk::NO_ROOM as u64, 0, 0],
+    match answer {
+        Ok(Decoded::Own) => [0, 0, 0],
+        Ok(Decoded::Filled(n)) => [0, 1, n as u64],
+        Err(Undecoded::Forbidden(i)) => [u64::from(Refusal::ForbiddenByte.number()), 0, i as u64],
+        Err(why) => [u64::from(why.number()), 0, 0],
     }
 }
 
@@ -125,6 +100,5 @@ fn decode_numbers(r: Decoded) -> [u64; 3]
 pub extern "C" fn dampfeather_decode_nal(nal: &[u8], room: &mut [u8], answer: &mut [u64; 3])
     ensures { FrontsDecode nal.now room.old room.new answer.new }
 {
-    let r = decode_nal(nal, room);
-    *answer = decode_numbers(r);
+    *answer = decode_numbers(decode_nal(nal, room));
 }

@@ -2,20 +2,21 @@
 ghost use Rattle.std.specs.Prelude.{◌≡◌};
 ghost use Rattle.exports.specs.Framing.{frame_of, frame_numbers, FrontsPush, FrontsReset};
 
-use super::numbers::{flag, wide};
-use annexb::{AnnexBReader, Pushed};
+use super::numbers::pushed;
+use annexb::AnnexBReader;
+use desk::{Pushed, Refusal};
 
-fn frame_numbers(r: Pushed) -> [u64; 6]
-    ensures { result ≡ frame_numbers r }
+fn frame_numbers(answer: Result<Pushed, Refusal>, reader: AnnexBReader) -> [u64; 6]
+    ensures { result ≡ frame_numbers answer reader }
 {
-    let state = r.state;
+    let [number, taken, written, marked] = pushed(answer);
     [
-        wide(r.number),
-        r.taken as u64,
-        r.written as u64,
-        r.marked as u64,
-        flag(state.in_unit),
-        wide(state.zeros),
+        number,
+        taken,
+        written,
+        marked,
+        u64::from(reader.in_unit),
+        u64::from(reader.zeros),
     ]
 }
 
@@ -32,9 +33,8 @@ pub extern "C" fn dampfeather_annexb_push(
     ensures { FrontsPush (frame_of in_unit zeros) chunk.now room.old marks.old
         room.new marks.new answer.new }
 {
-    let s = AnnexBReader { in_unit, zeros };
-    let r = s.push(chunk, room, marks);
-    *answer = frame_numbers(r);
+    let mut reader = AnnexBReader { in_unit, zeros };
+    *answer = frame_numbers(reader.push(chunk, room, marks), reader);
 }
 
 // AnnexBReader::reset. The answer is as a push's.
@@ -49,7 +49,6 @@ pub extern "C" fn dampfeather_annexb_reset(
     ensures { FrontsReset (frame_of in_unit zeros) room.old marks.old
         room.new marks.new answer.new }
 {
-    let s = AnnexBReader { in_unit, zeros };
-    let r = s.reset(room, marks);
-    *answer = frame_numbers(r);
+    let mut reader = AnnexBReader { in_unit, zeros };
+    *answer = frame_numbers(reader.reset(room, marks), reader);
 }

@@ -4,38 +4,44 @@ ghost use Rattle.pps.specs.Rule.{num_ref_idx};
 ghost use Rattle.pps.specs.Answer.{rect_of};
 ghost use Rattle.bits.specs.Reading.{reader_at};
 ghost use Rattle.exports.specs.Bits.{FrontsBits};
-ghost use Rattle.exports.specs.Groups.{picture_of, rect_numbers, FrontsRect, change_number, group_numbers, groups_numbers, corner_numbers};
+ghost use Rattle.exports.specs.Groups.{picture_of, rect_numbers, FrontsRect, group_numbers, groups_numbers, pair_of, corner_numbers};
 ghost use Rattle.exports.specs.Groups.{arrays, FrontsGroups};
 
-use super::numbers::{flag, wide, wide_u32};
-use super::reading::bits_numbers;
-use bits::{BitPos, BitReader};
-use pps::{
-    Geometry, Rect, SliceGroup, SliceGroupChangeType, SliceGroupRead, SliceRect, read_num_ref_idx,
-};
+use super::numbers::{field, moved, reader_at};
+use bits::BitReader;
+use desk::Refusal;
+use pps::{Geometry, SliceGroup, SliceGroupRead, SliceGroups, SliceRect, read_num_ref_idx};
 
 // read_num_ref_idx. The answer: number, value, and the place behind it.
 #[unsafe(no_mangle)]
 pub extern "C" fn dampfeather_read_num_ref_idx(at: usize, s: &[u8], answer: &mut [u64; 3])
     ensures { FrontsBits (reader_at at) (num_ref_idx s.now at) answer.new }
 {
-    let from = BitReader { at: BitPos(at) };
-    let r = read_num_ref_idx(s, from);
-    *answer = bits_numbers(r);
+    let mut reader = reader_at(at);
+    *answer = field(read_num_ref_idx(s, &mut reader), reader);
 }
 
-fn rect_numbers(r: Rect) -> [u64; 4]
-    ensures { result ≡ rect_numbers r }
+fn geometry(width: u32, size: u32) -> Geometry
+    ensures { result ≡ picture_of width size }
 {
-    match r {
-        Rect::Value(v, next) => [
-            0,
-            next.at.0 as u64,
-            wide_u32(v.top_left),
-            wide_u32(v.bottom_right),
-        ],
-        Rect::Refused(n, back) => [wide(n), back.at.0 as u64, 0, 0],
+    Geometry {
+        pic_width_in_mbs: width,
+        pic_size_in_map_units: size,
     }
+}
+
+fn pair(rect: SliceRect) -> [u32; 2]
+    ensures { result ≡ pair_of rect }
+{
+    [rect.top_left, rect.bottom_right]
+}
+
+fn rect_numbers(answer: Result<SliceRect, Refusal>, reader: BitReader) -> [u64; 4]
+    ensures { result ≡ rect_numbers answer reader }
+{
+    let [number, place] = moved(&answer, reader);
+    let [top_left, bottom_right] = answer.map_or([0; 2], pair);
+    [number, place, u64::from(top_left), u64::from(bottom_right)]
 }
 
 // SliceRect::read. The answer: number, the place behind it, top_left, bottom_right.
@@ -49,29 +55,17 @@ pub extern "C" fn dampfeather_read_slice_rect(
 )
     ensures { FrontsRect (reader_at at) (rect_of s.now at width size) answer.new }
 {
-    let from = BitReader { at: BitPos(at) };
-    let geometry = Geometry {
-        pic_width_in_mbs: width,
-        pic_size_in_map_units: size,
-    };
-    let r = SliceRect::read(s, from, geometry);
-    *answer = rect_numbers(r);
+    let mut reader = reader_at(at);
+    *answer = rect_numbers(
+        SliceRect::read(s, &mut reader, geometry(width, size)),
+        reader,
+    );
 }
 
-fn change_number(t: SliceGroupChangeType) -> u64
-    ensures { result ≡ change_number t }
+fn group_numbers(group: SliceGroup) -> [u64; 4]
+    ensures { result ≡ group_numbers group }
 {
-    match t {
-        SliceGroupChangeType::BoxOut => 3,
-        SliceGroupChangeType::RasterScan => 4,
-        SliceGroupChangeType::WipeOut => 5,
-    }
-}
-
-fn group_numbers(g: SliceGroup) -> [u64; 4]
-    ensures { result ≡ group_numbers g }
-{
-    match g {
+    match group {
         SliceGroup::Interleaved => [0, 0, 0, 0],
         SliceGroup::Dispersed => [1, 0, 0, 0],
         SliceGroup::ForegroundAndLeftover => [2, 0, 0, 0],
@@ -80,56 +74,40 @@ fn group_numbers(g: SliceGroup) -> [u64; 4]
             slice_group_change_direction_flag,
             slice_group_change_rate_minus1,
         } => [
-            change_number(change_type),
-            flag(slice_group_change_direction_flag),
-            wide_u32(slice_group_change_rate_minus1),
+            u64::from(u32::from(change_type)),
+            u64::from(slice_group_change_direction_flag),
+            u64::from(slice_group_change_rate_minus1),
             0,
         ],
         SliceGroup::ExplicitAssignment {
             pic_size_in_map_units_minus1,
-        } => [6, 0, 0, wide_u32(pic_size_in_map_units_minus1)],
+        } => [6, 0, 0, u64::from(pic_size_in_map_units_minus1)],
     }
 }
 
-fn groups_numbers(r: SliceGroupRead) -> [u64; 4]
-    ensures { result ≡ groups_numbers r }
+fn groups_numbers(answer: &Result<SliceGroupRead, Refusal>, reader: BitReader) -> [u64; 4]
+    ensures { result ≡ groups_numbers answer.now reader }
 {
-    let groups = r.groups;
-    let reader = r.reader;
-    [
-        wide(r.number),
-        reader.at.0 as u64,
-        wide_u32(groups.num_slice_groups_minus1),
-        r.ids as u64,
-    ]
+    let [number, place] = moved(answer, reader);
+    match answer {
+        Ok(read) => [
+            number,
+            place,
+            u64::from(read.groups.num_slice_groups_minus1),
+            read.ids as u64,
+        ],
+        Err(_) => [number, place, 0, 0],
+    }
 }
 
+// The corners of each rectangle in turn.
 fn corners(rects: [SliceRect; 7]) -> [u32; 14]
     ensures { result ≡ corner_numbers rects }
 {
-    let a = rects[0];
-    let b = rects[1];
-    let c = rects[2];
-    let d = rects[3];
-    let e = rects[4];
-    let f = rects[5];
-    let g = rects[6];
-    [
-        a.top_left,
-        a.bottom_right,
-        b.top_left,
-        b.bottom_right,
-        c.top_left,
-        c.bottom_right,
-        d.top_left,
-        d.bottom_right,
-        e.top_left,
-        e.bottom_right,
-        f.top_left,
-        f.bottom_right,
-        g.top_left,
-        g.bottom_right,
-    ]
+    let pairs = rects.map(pair);
+    let mut all = [0; 14];
+    all.copy_from_slice(pairs.as_flattened());
+    all
 }
 
 // SliceGroup::read. The answer: number, the place behind the last field, num_slice_groups_minus1, and the count of ids written. The group: its
@@ -152,21 +130,24 @@ pub extern "C" fn dampfeather_read_slice_groups(
         (arrays group.old runs.old rects.old)
         ids.new answer.new (arrays group.new runs.new rects.new) }
 {
-    let from = BitReader { at: BitPos(at) };
-    let geometry = Geometry {
-        pic_width_in_mbs: width,
-        pic_size_in_map_units: size,
-    };
-    let r = SliceGroup::read(s, from, num_slice_groups_minus1, geometry, ids);
-    *answer = groups_numbers(r);
-    if r.number != desk::DONE {
-        return;
+    let mut reader = reader_at(at);
+    let read = SliceGroup::read(
+        s,
+        &mut reader,
+        num_slice_groups_minus1,
+        geometry(width, size),
+        ids,
+    );
+    *answer = groups_numbers(&read, reader);
+    if let Ok(SliceGroupRead { groups, .. }) = read {
+        let SliceGroups {
+            group: kind,
+            run_length_minus1,
+            rectangles,
+            ..
+        } = groups;
+        *group = group_numbers(kind);
+        *runs = run_length_minus1;
+        *rects = corners(rectangles);
     }
-    let groups = r.groups;
-    let kind = groups.group;
-    let read_runs = groups.run_length_minus1;
-    let read_rects = groups.rectangles;
-    *group = group_numbers(kind);
-    *runs = read_runs;
-    *rects = corners(read_rects);
 }

@@ -1,11 +1,12 @@
-// Writing bits: the calls of `bits`. A writer is the count of bytes written, the pending bits as a number, and their count.
+// Writing bits: the calls of `bits`. A writer is the count of bytes written, the pending bits as a number, and their count. The five writes are alike
+// but for the call: each is a function of the C interface.
 ghost use Rattle.std.specs.Prelude.{◌≡◌, eqb};
 ghost use Rattle.bits.specs.Reading.{mapped};
 ghost use Rattle.bits.specs.Writing.{writer, write_bits, write_bit, write_ue, write_se, write_trailing};
-ghost use Rattle.exports.specs.Bits.{put_state, put_numbers, FrontsPut, FrontsMapped};
+ghost use Rattle.exports.specs.Bits.{put_numbers, FrontsPut, FrontsMapped};
 
-use super::numbers::wide;
-use bits::{BitWriter, BytePos, Mapped, Put, golomb_to_signed};
+use bits::{BitWriter, BytePos, golomb_to_signed};
+use desk::Refusal;
 
 fn writer_of(written: usize, pending: u8, count: u8) -> BitWriter
     ensures { result ≡ writer written pending count }
@@ -17,24 +18,15 @@ fn writer_of(written: usize, pending: u8, count: u8) -> BitWriter
     }
 }
 
-fn put_state(number: u8, s: BitWriter) -> [u64; 4]
-    ensures { result ≡ put_state number s }
+fn put(answer: Result<(), Refusal>, writer: BitWriter) -> [u64; 4]
+    ensures { result ≡ put_numbers answer writer }
 {
     [
-        wide(number),
-        s.written.0 as u64,
-        wide(s.pending),
-        wide(s.count),
+        u64::from(desk::number(&answer)),
+        writer.written.0 as u64,
+        u64::from(writer.pending),
+        u64::from(writer.count),
     ]
-}
-
-fn put_numbers(r: Put) -> [u64; 4]
-    ensures { result ≡ put_numbers r }
-{
-    match r {
-        Put::Done(s) => put_state(desk::DONE, s),
-        Put::Refused(n, s) => put_state(n, s),
-    }
 }
 
 // BitWriter::write: u(width) of value. The answer: number, and the writer: bytes written, pending bits, their count.
@@ -51,9 +43,8 @@ pub extern "C" fn dampfeather_write(
     ensures { FrontsPut written pending count out.new (λ from. write_bits out.old from width value)
         answer.new }
 {
-    let writer = writer_of(written, pending, count);
-    let r = writer.write(out, width, value);
-    *answer = put_numbers(r);
+    let mut writer = writer_of(written, pending, count);
+    *answer = put(writer.write(out, width, value), writer);
 }
 
 // BitWriter::write_bit. The answer is as write's.
@@ -68,9 +59,8 @@ pub extern "C" fn dampfeather_write_bit(
 )
     ensures { FrontsPut written pending count out.new (λ from. write_bit out.old from bit) answer.new }
 {
-    let writer = writer_of(written, pending, count);
-    let r = writer.write_bit(out, bit);
-    *answer = put_numbers(r);
+    let mut writer = writer_of(written, pending, count);
+    *answer = put(writer.write_bit(out, bit), writer);
 }
 
 // BitWriter::write_ue. The answer is as write's.
@@ -85,9 +75,8 @@ pub extern "C" fn dampfeather_write_ue(
 )
     ensures { FrontsPut written pending count out.new (λ from. write_ue out.old from value) answer.new }
 {
-    let writer = writer_of(written, pending, count);
-    let r = writer.write_ue(out, value);
-    *answer = put_numbers(r);
+    let mut writer = writer_of(written, pending, count);
+    *answer = put(writer.write_ue(out, value), writer);
 }
 
 // BitWriter::write_se. The answer is as write's.
@@ -102,9 +91,8 @@ pub extern "C" fn dampfeather_write_se(
 )
     ensures { FrontsPut written pending count out.new (λ from. write_se out.old from value) answer.new }
 {
-    let writer = writer_of(written, pending, count);
-    let r = writer.write_se(out, value);
-    *answer = put_numbers(r);
+    let mut writer = writer_of(written, pending, count);
+    *answer = put(writer.write_se(out, value), writer);
 }
 
 // BitWriter::write_rbsp_trailing_bits. The answer is as write's.
@@ -118,9 +106,8 @@ pub extern "C" fn dampfeather_write_rbsp_trailing_bits(
 )
     ensures { FrontsPut written pending count out.new (λ from. write_trailing out.old from) answer.new }
 {
-    let writer = writer_of(written, pending, count);
-    let r = writer.write_rbsp_trailing_bits(out);
-    *answer = put_numbers(r);
+    let mut writer = writer_of(written, pending, count);
+    *answer = put(writer.write_rbsp_trailing_bits(out), writer);
 }
 
 // BitWriter::byte_aligned.
@@ -128,8 +115,7 @@ pub extern "C" fn dampfeather_write_rbsp_trailing_bits(
 pub extern "C" fn dampfeather_writer_byte_aligned(written: usize, pending: u8, count: u8) -> bool
     ensures { result ≡ eqb count 0 }
 {
-    let writer = writer_of(written, pending, count);
-    writer.byte_aligned()
+    writer_of(written, pending, count).byte_aligned()
 }
 
 // golomb_to_signed, its number. A refusal leaves the value as it came.
@@ -137,11 +123,9 @@ pub extern "C" fn dampfeather_writer_byte_aligned(written: usize, pending: u8, c
 pub extern "C" fn dampfeather_golomb_to_signed(val: u32, value: &mut i32) -> u8
     ensures { FrontsMapped (mapped val) value.old value.new result }
 {
-    let r = golomb_to_signed(val);
-    let number = r.number();
-    let Mapped::Value(z) = r else {
-        return number;
-    };
-    *value = z;
-    number
+    let mapped = golomb_to_signed(val);
+    if let Ok(signed) = mapped {
+        *value = signed;
+    }
+    desk::number(&mapped)
 }

@@ -1,5 +1,5 @@
 -- A number in decimal: `places` is the fewest digits that hold it, and the kit's contract leaves no other number of them.
-use Rattle.std.proofs.Common.{◌≡◌, ℕ, zero, suc, ◌-◌, ◌*◌, ◌/◌, ◌^◌, ◌<◌, ◌≤◌, Bool, true, false, ltb, leb, length, refl, ap, arith, length-append, ltb-false, ltb-true, leb-false, leb-true}
+use Rattle.std.proofs.Common.{◌≡◌, ℕ, zero, suc, ◌-◌, ◌*◌, ◌/◌, ◌^◌, ◌<◌, ◌≤◌, Bool, true, false, ltb, leb, refl, ap, arith, ltb-false, ltb-true, leb-false, leb-true}
 use native.Mathlib.Nat.{pow-le-pow_right, pow-succ'}
 use Rattle.desk.proofs.Choice.{cond_by}
 use Rattle.io.specs.Digits.{last_digits, IsDigitCount}
@@ -49,24 +49,3 @@ unfolding decimal
 decimal_is n k f =
     let e : k ≡ places n = omega (arith, fewest_le n k (places n) f (places_fewest n), fewest_le n (places n) k (places_fewest n) f) in
     ap (λ (j : ℕ). last_digits 10 j n) e
-
-digits_long : (k n : ℕ) → length (last_digits 10 k n) ≡ k
-digits_long zero n = refl
-digits_long (suc k) n = simp length-append (omega (arith, digits_long k (n / 10)))
-
--- a u64 has at most twenty
-fewest_20 : (n k : ℕ) → n < 18446744073709551616 → IsDigitCount 10 1 n k → k ≤ 20
-fewest_20 n k h f = go (leb k 20) refl
-  where
-    go : (c : Bool) → leb k 20 ≡ c → k ≤ 20
-    go true e = leb-true k 20 e
-    go false e =
-        let over : 20 < k = leb-false k 20 e in
-        let more : 20 ≤ k - 1 = omega arith in
-        let big : 10 ^ 20 ≤ 10 ^ (k - 1) = pow-le-pow_right (omega arith) more in
-        let z : ⊥ = omega (arith, big, f.2 (omega arith)) in
-        absurd z
-
-pub few_digits : (n : ℕ) → n < 18446744073709551616 → length (decimal n) ≤ 20
-unfolding decimal
-few_digits n h = omega (arith, digits_long (places n) n, fewest_20 n (places n) h (places_fewest n))

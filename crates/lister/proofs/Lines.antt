@@ -1,5 +1,5 @@
 -- The lines of more units.
-use Rattle.std.proofs.Common.{◌≡◌, ℕ, suc, ◌+◌, ◌%◌, List, [], ◌∷◌, ◌++◌, length, sym, refl, ap, ◌∙◌, ap₂, append_assoc, append-nil, add-zero, arith}
+use Rattle.std.proofs.Common.{◌≡◌, ℕ, suc, ◌+◌, ◌%◌, List, [], ◌∷◌, ◌++◌, length, sym, refl, ap, ◌∙◌, ap₂, append_assoc, add-zero, arith}
 use Rattle.counting.specs.Tally.{wrap}
 use Rattle.lister.specs.Text.{unit_line, lines_by, modulo}
 
@@ -9,9 +9,6 @@ lines_append m i (x ∷ xs) ys =
     let e : suc i + length xs ≡ i + suc (length xs) = omega arith in
     ap (λ (l : List ℕ). unit_line (m i) x ++ l) (lines_append m (suc i) xs ys ∙ ap (λ (k : ℕ). lines_by m (suc i) xs ++ lines_by m k ys) e)
     ∙ sym (append_assoc (unit_line (m i) x) (lines_by m (suc i) xs) (lines_by m (i + suc (length xs)) ys))
-
-pub lines_more : (m : ℕ → ℕ) (i : ℕ) (ns : List ℕ) (n : ℕ) → lines_by m i (ns ++ n ∷ []) ≡ lines_by m i ns ++ unit_line (m (i + length ns)) n
-lines_more m i ns n = lines_append m i ns (n ∷ []) ∙ ap (λ (l : List ℕ). lines_by m i ns ++ l) (append-nil (unit_line (m (i + length ns)) n))
 
 -- modulo 2^64 an index is as good as one that differs by a multiple of it
 pub lines_modulo : (x y : ℕ) → x % wrap ≡ y % wrap → (ns : List ℕ) → lines_by modulo x ns ≡ lines_by modulo y ns

@@ -1,45 +1,44 @@
--- One push of a piece of the input.
-use Rattle.std.proofs.Common.{◌≡◌, ℕ, ◌≤◌, ltb, List, [], ◌∷◌, length, not-suc-le-zero, arith, le-ltb}
+-- One call of the reader: that it isn't refused, and how much it takes.
+use Rattle.std.proofs.Common.{◌≡◌, ℕ, ◌≤◌, ltb, List, [], ◌∷◌, length, Result, Ok, Err, IsOk, ◌∙◌, zero-le, not-suc-le-zero, arith, rules, le-ltb}
+use Rattle.desk.specs.Numbers.{most}
+use Rattle.desk.specs.Push.{Answer}
+use Rattle.desk.specs.Refusing.{answered}
+use Rattle.desk.specs.declared.refusal.Refusal.{Refusal}
+use Rattle.desk.proofs.Refusing.{number_some}
+use Rattle.desk.proofs.Taking.{never_7}
+use Rattle.desk.proofs.Choice.{cond_ind}
 use Rattle.desk.proofs.Entering.{entry_done}
 use Rattle.annexb.specs.declared.AnnexBReader.{AnnexBReader}
-use Rattle.annexb.specs.declared.Pushed.{Pushed}
-use Rattle.annexb.specs.Answer.{entering, push_answer, Gave}
-use Rattle.annexb.proofs.Laws.{push_takes_longest, push_takes_one}
-use Rattle.annexb.proofs.Calling.{push_few}
-use Rattle.lister.specs.System.{KeptOrFailed}
-use Rattle.lister.specs.Listed.{Ready, SomeListed}
+use Rattle.annexb.specs.Step.{stepping}
+use Rattle.annexb.specs.Answer.{entering, push_answer, closing, reset_answer}
+use Rattle.annexb.proofs.Laws.{none_forbidden, push_takes_longest, push_takes_one}
+use Rattle.annexb.proofs.Completing.{reset_done}
 
--- with a part of the chunk, and buffers that are as long
-pub still_ready : {zeros chunk room marks text zeros' chunk' room' marks' text' : ℕ} → Ready zeros chunk room marks text
-    → zeros' ≤ 2 → chunk' ≤ chunk → room' ≡ room → marks' ≡ marks → text' ≡ text → Ready zeros' chunk' room' marks' text'
-still_ready g z ec er em et =
-    record {
-      good = z;
-      chunk_few = omega (arith, g.chunk_few, ec);
-      room_3 = omega (arith, g.room_3, er);
-      room_few = omega (arith, g.room_few, er);
-      marks_1 = omega (arith, g.marks_1, em);
-      marks_few = omega (arith, g.marks_few, em);
-      lines_fit = omega (arith, g.lines_fit, em, et);
-    }
+-- what is answered by 0 is not refused
+pub not_refused : {A : Type 0} (r : Result A Refusal) → answered r ≡ 0 → IsOk r
+not_refused (Ok x) e = search rules
+not_refused (Err why) e = absurd (let z = number_some why in let f : ⊥ = omega arith in f)
 
-pub passes : (s : AnnexBReader) {chunk room marks text : ℕ} → Ready s.zeros chunk room marks text → entering s chunk room marks ≡ 0
-passes s {chunk} {room} {marks} g =
-    entry_done (chunk ∷ room ∷ marks ∷ []) (ltb 2 s.zeros) (g.chunk_few, (g.room_few, (g.marks_few, tt))) (le-ltb 2 s.zeros g.good)
+-- with the memory of a listing, in a state that pushes come to
+module _ (s : AnnexBReader) (room marks : ℕ) (good : s.zeros ≤ 2) (room_long : room ≡ 65536) (marks_long : marks ≡ 1024) where
+  passes : (chunk : ℕ) → chunk ≤ most → entering s chunk room marks ≡ 0
+  passes chunk few = entry_done (chunk ∷ room ∷ marks ∷ []) (ltb 2 s.zeros) (few, (omega arith, (omega arith, tt))) (le-ltb 2 s.zeros good)
 
-taken_one : (s : AnnexBReader) (chunk : List ℕ) {room marks text : ℕ} → 1 ≤ length chunk → Ready s.zeros (length chunk) room marks text
-    → 1 ≤ (push_answer s chunk room marks).taken
-taken_one s [] h g = absurd (not-suc-le-zero h)
-taken_one s (b ∷ bs) {room} {marks} h g = push_takes_one s b bs room marks (passes s g) g.room_3 g.marks_1
+  pub push_passes : (chunk : List ℕ) → length chunk ≤ most → (push_answer s chunk room marks).number ≡ 0
+  push_passes chunk few = never_7 stepping none_forbidden (entering s (length chunk) room marks) s chunk room marks ∙ passes (length chunk) few
 
-pub some_listed : (s : AnnexBReader) (chunk room marks : List ℕ) {room' marks' : List ℕ} {r : Pushed} {text status status' : ℕ} → 1 ≤ length chunk
-    → Ready s.zeros (length chunk) (length room) (length marks) text
-    → Gave (push_answer s chunk (length room) (length marks)) room marks room' marks' r → KeptOrFailed status status'
-    → SomeListed r.state.zeros r.taken (length chunk) status status'
-some_listed s chunk room marks {room'} {marks'} {r} h g o w =
-    record {
-      good = push_few s chunk room marks room' marks' r g.good o;
-      some_taken = omega (arith, o.taken_is, taken_one s chunk h g);
-      taken_few = omega (arith, o.taken_is, (push_takes_longest s chunk (length room) (length marks) (passes s g)).few);
-      well = w;
-    }
+  pub takes_one : (chunk : List ℕ) → 1 ≤ length chunk → length chunk ≤ most → 1 ≤ (push_answer s chunk room marks).taken
+  takes_one [] h few = absurd (not-suc-le-zero h)
+  takes_one (b ∷ bs) h few = push_takes_one s b bs room marks (passes (length (b ∷ bs)) few) (omega arith) (omega arith)
+
+  pub takes_few : (chunk : List ℕ) → length chunk ≤ most → (push_answer s chunk room marks).taken ≤ length chunk
+  takes_few chunk few = (push_takes_longest s chunk room marks (passes (length chunk) few)).few
+
+  pub reset_passes : (reset_answer s room marks).number ≡ 0
+  reset_passes = reset_done s room marks (passes 0 (omega arith)) (omega arith) (omega arith)
+
+  pub stays_good : (reset_answer s room marks).after.zeros ≤ 2
+  unfolding reset_answer closing
+  stays_good =
+      let P = λ (a : Answer AnnexBReader). a.after.zeros ≤ 2 in
+      cond_ind P _ _ _ (cond_ind P s.in_unit _ _ (cond_ind P _ _ _ zero-le good) zero-le) good

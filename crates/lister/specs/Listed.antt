@@ -1,22 +1,12 @@
 -- WHERE A LISTING STANDS: what was read, what was handed to writing, and that the one is the text of the other.
-use Rattle.std.specs.Prelude.{◌≡◌, ℕ, ◌+◌, ◌*◌, ◌≤◌, ◌⊎◌, List, [], ◌++◌, drop, ◌≢◌}
-use Rattle.desk.specs.Numbers.{most}
+use Rattle.std.specs.Prelude.{◌≡◌, ℕ, ◌≤◌, ◌⊎◌, List, [], ◌++◌, length, drop, Result, Ok, Err, MatchResult}
 use Rattle.annexb.specs.Rule.{frame, units_at_reset}
 use Rattle.counting.specs.Listing.{Listing}
 use Rattle.lister.specs.declared.Progress.{Progress}
 use Rattle.lister.specs.Text.{lines_by, modulo, unit_lines_told, listing_told}
-use Rattle.lister.specs.System.{WasRead, WasSent, Ended, more_to_come, ended, write_failed, KeptOrFailed}
-
--- what a piece of the input is listed with: the reader's zeros, and how many elements the chunk, the room, the marks and the text have;
--- a line for each mark and the total fit the text
-pub record Ready (zeros chunk room marks text : ℕ) : Type 0 where
-  pub good : zeros ≤ 2
-  pub chunk_few : chunk ≤ most
-  pub room_3 : 3 ≤ room
-  pub room_few : room ≤ most
-  pub marks_1 : 1 ≤ marks
-  pub marks_few : marks ≤ most
-  pub lines_fit : marks * 47 + 27 ≤ text
+use Rattle.lister.specs.declared.system.Failure.{Failure}
+use Rattle.lister.specs.declared.system.Failure.TheVariants.{Read, Write}
+use Rattle.lister.specs.System.{WasRead, WasSent, Ended}
 
 -- the bytes `waiting` are read and not yet listed; all before them are listed by pushes and tallies, and the lines of the lengths told
 -- are all the text
@@ -29,29 +19,23 @@ pub record Carries (waiting : List ℕ) (read sent : ℕ) (p : Progress) : Type 
   pub was_read : WasRead (taken ++ waiting) read
   pub was_sent : WasSent (lines_by modulo 0 lengths) sent
 
--- some of a chunk is listed
-pub record SomeListed (zeros taken chunk status status' : ℕ) : Type 0 where
-  pub good : zeros ≤ 2
-  pub some_taken : 1 ≤ taken
-  pub taken_few : taken ≤ chunk
-  pub well : KeptOrFailed status status'
-
--- a chunk is listed: all of it, unless a write failed
-pub record ChunkListed (zeros taken chunk status : ℕ) : Type 0 where
-  pub good : zeros ≤ 2
-  pub all_taken : (status ≢ write_failed) → (status ≡ more_to_come) × (taken ≡ chunk)
-
 -- THE FIRST `taken` BYTES OF A CHUNK ARE LISTED: whatever was listed before, they are behind it, none lost and none twice, and so are their lines
 abbrev pub Lists : List ℕ → ℕ → Progress → ℕ → ℕ → Progress → Type 0
 Lists chunk sent p taken sent' p' = (read : ℕ) → Carries chunk read sent p → Carries (drop taken chunk) read sent' p'
 
--- after a turn: nothing waits, unless a write failed
-pub record Turned (status read sent : ℕ) (p : Progress) : Type 0 where
-  pub good : p.reader.zeros ≤ 2
-  pub waiting : List ℕ
-  pub carries : Carries waiting read sent p
-  pub none_waits : (status ≢ write_failed) → waiting ≡ []
-  pub at_end : status ≡ ended → Ended read
+-- some of a chunk is listed, and so much is answered, unless its lines could not be written
+pub record SomeListed (chunk : List ℕ) (sent : ℕ) (p : Progress) (r : Result ℕ Failure) (sent' : ℕ) (p' : Progress) : Type 0 where
+  pub taken : ℕ
+  pub some_taken : 1 ≤ taken
+  pub taken_few : taken ≤ length chunk
+  pub lists : Lists chunk sent p taken sent' p'
+  pub came_to : MatchResult r (λ n. n ≡ taken) (λ e. e ≡ Write)
+
+-- a chunk is listed: all of it, unless a write failed
+pub record ChunkListed (chunk : List ℕ) (sent : ℕ) (p : Progress) (r : Result (Unit {0}) Failure) (sent' : ℕ) (p' : Progress) : Type 0 where
+  pub taken : ℕ
+  pub lists : Lists chunk sent p taken sent' p'
+  pub came_to : MatchResult r (λ _. taken ≡ length chunk) (λ e. e ≡ Write)
 
 -- ALL THAT WAS READ IS LISTED, TO THE TOTAL
 pub record WholeText (read sent : ℕ) : Type 0 where
@@ -70,7 +54,7 @@ pub record PartText (waiting : List ℕ) (read sent : ℕ) : Type 0 where
 
 -- WHAT A WHOLE LISTING COMES TO. At the end of the input: the text of the rule's units of all that was read. Where a read failed: the lines of
 -- the units that ended in all that was read, and no total. Where a write failed, at whatever text: what was handed to it was right.
-pub record ListingCameTo (read sent status : ℕ) : Type 0 where
-  pub at_end : status ≡ ended → Ended read × WholeText read sent
-  pub after_read_failed : (status ≢ ended) → (status ≢ write_failed) → PartText [] read sent
-  pub after_write_failed : status ≡ write_failed → (WholeText read sent) ⊎ ((waiting : List ℕ) × PartText waiting read sent)
+pub record ListingCameTo (read sent : ℕ) (r : Result (Unit {0}) Failure) : Type 0 where
+  pub at_end : r ≡ Ok tt → Ended read × WholeText read sent
+  pub after_read_failed : r ≡ Err Read → PartText [] read sent
+  pub after_write_failed : r ≡ Err Write → (WholeText read sent) ⊎ ((waiting : List ℕ) × PartText waiting read sent)

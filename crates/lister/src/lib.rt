@@ -2,219 +2,159 @@
 // Memory is constant whatever the stream's length. Lengths and counts are u64: a stream of 2^64 bytes is out of reach.
 //
 // What the contracts carry is where a listing stands (specs/Listed.antt): all that was read so far, all that was handed to writing, and
-// what waits between. `read` and `sent` count the one and the other, which system.rt alone writes; `status` says what the operating system's
-// calls came to.
+// what waits between. `read` and `sent` of the system count the one and the other, and system.rt alone writes them.
 #![tactic(auto)]
 
 mod system;
 mod text;
 
-ghost use Rattle.std.specs.Prelude.{◌≡◌, ◌≤◌, [], length};
-ghost use Rattle.lister.specs.Listed.{Ready, Carries, SomeListed, ChunkListed, Lists, Turned, Finishes, ListingCameTo};
-ghost use Rattle.lister.specs.System.{more_to_come, KeptOrFailed, WasRead, WasSent};
+ghost use Rattle.std.specs.Prelude.{◌≡◌, ◌≤◌, length};
 
 use annexb::AnnexBReader;
 use counting::Tally;
+use desk::Pushed;
 use std::process::ExitCode;
-use system::{END, MORE};
+use system::{Failure, System};
+use text::Text;
+
+// How many bytes a read is asked for, and a call of the reader may give.
+const ROOM: usize = 65_536;
+
+// How many units a call of the reader may end.
+const MARKS: usize = 1024;
 
 // What is kept between two pieces of the input.
-#[derive(Clone, Copy)]
+#[derive(Clone, Copy, Debug, PartialEq, Eq)]
 struct Progress {
     reader: AnnexBReader,
     tally: Tally,
 }
 
-// The front of a chunk that is listed.
-#[derive(Clone, Copy)]
-struct Piece {
-    taken: usize,
+// A listing under way, and the memory for one call of the reader: what it gives, its marks, and the lines of the units that it ends.
+#[derive(Drop)]
+struct Listing {
+    system: System,
     progress: Progress,
+    room: [u8; ROOM],
+    marks: [u64; MARKS],
+    text: Text,
+    // The reader's state is no bad one.
+    ghost good: { progress.reader.zeros ≤ 2 },
 }
 
-fn mark_room() -> [u64; 1024]
-    ensures { 1024 ≡ length result }
-{
-    [0; 1024]
-}
+impl Listing {
+    ghost use Rattle.std.specs.Prelude.{◌*◌, [], take, IfErr};
+    ghost use Rattle.desk.specs.Numbers.{most};
+    ghost use Rattle.counting.specs.Tally.{Tallied};
+    ghost use Rattle.lister.specs.Text.{lines_by, modulo};
+    ghost use Rattle.lister.specs.Listed.{Carries, SomeListed, ChunkListed, Finishes, ListingCameTo};
 
-// Lists the units that end in the front of a chunk that one push takes: their lines go out at once. Lent three bytes and a mark, a push takes
-// one byte at least.
-fn list_some(
-    rt: HostRuntime,
-    p: Progress,
-    chunk: &[u8],
-    room: &mut [u8],
-    marks: &mut [u64],
-    text: &mut [u8],
-    sent: &mut u64,
-    status: &mut u8,
-) -> Piece
-    requires in_bounds { 1 ≤ length chunk.now }
-    requires ready { Ready p.reader.zeros (length chunk.now) (length room.old) (length marks.old) (length text.old) }
-    ensures some_listed { SomeListed result.progress.reader.zeros result.taken (length chunk.now) status.old status.new }
-    ensures lists { Lists chunk.now sent.old p result.taken sent.new result.progress }
-{
-    let before = p.reader;
-    let tally = p.tally;
-    let r = before.push(chunk, room, marks);
-    let marked = r.marked;
-    let after = tally.tally(marks, marked, r.written);
-    let filled = text::unit_lines(text, marks, marked, tally.units);
-    system::hand_out(rt, text, filled, sent, status);
-    let reader = r.state;
-    Piece {
-        taken: r.taken,
-        progress: Progress {
-            reader,
-            tally: after,
-        },
-    }
-}
-
-// Lists the units that end in a chunk: all of it is taken, unless a write fails.
-fn list_chunk(
-    rt: HostRuntime,
-    p: Progress,
-    chunk: &[u8],
-    room: &mut [u8],
-    marks: &mut [u64],
-    text: &mut [u8],
-    sent: &mut u64,
-    status: &mut u8,
-) -> Piece
-    requires status_value { status.old ≡ more_to_come }
-    requires ready { Ready p.reader.zeros (length chunk.now) (length room.old) (length marks.old) (length text.old) }
-    ensures chunk_listed { ChunkListed result.progress.reader.zeros result.taken (length chunk.now) status.new }
-    ensures lists { Lists chunk.now sent.old p result.taken sent.new result.progress }
-{
-    let mut progress = p;
-    let mut at: usize = 0;
-    while at < chunk.len() {
-        let piece = list_some(rt, progress, &chunk[at..], room, marks, text, sent, status);
-        progress = piece.progress;
-        at += piece.taken;
-        if *status != MORE {
-            return Piece {
-                taken: at,
-                progress,
-            };
+    fn new(rt: HostRuntime) -> Listing
+        ensures { Carries [] result.system.read result.system.sent result.progress }
+    {
+        Listing {
+            system: System::new(rt),
+            progress: Progress {
+                reader: AnnexBReader::new(),
+                tally: Tally::new(),
+            },
+            room: [0; ROOM],
+            marks: [0; MARKS],
+            text: Text::new(),
         }
     }
-    Piece {
-        taken: at,
-        progress,
+
+    // After a call of the reader: the lines of the units that it ended are the text.
+    fn tell(&mut self, called: Pushed)
+        requires { called.marked ≤ MARKS }
+        ensures tallied { Tallied self.old.progress.tally self.old.marks called.marked called.written self.new.marks self.new.progress.tally }
+        ensures text { self.new.text.items ≡ lines_by modulo self.old.progress.tally.units (take called.marked self.new.marks) }
+        ensures few { length self.new.text.items ≤ called.marked * 47 }
+        ensures reader { self.new.progress.reader ≡ self.old.progress.reader }
+        ensures system { self.new.system ≡ self.old.system }
+    {
+        let first = self.progress.tally.units;
+        self.progress
+            .tally
+            .tally(&mut self.marks, called.marked, called.written);
+        self.text.clear();
+        text::unit_lines(&mut self.text, &self.marks[..called.marked], first);
     }
-}
 
-// Reads once, and lists what came. A read may give any part of what was asked for.
-fn turn(
-    rt: HostRuntime,
-    p: Progress,
-    chunk: &mut [u8],
-    room: &mut [u8],
-    marks: &mut [u64],
-    text: &mut [u8],
-    read: &mut u64,
-    sent: &mut u64,
-    status: &mut u8,
-) -> Progress
-    requires status_value { status.old ≡ more_to_come }
-    requires ready { Ready p.reader.zeros (length chunk.old) (length room.old) (length marks.old) (length text.old) }
-    requires in_bounds { (1 ≤ length chunk.old) × Carries [] read.old sent.old p }
-    ensures { Turned status.new read.new sent.new result }
-{
-    let got = system::take_in(rt, chunk, read);
-    let n = io::count(got, chunk);
-    if n == 0 {
-        *status = system::over(got);
-        return p;
+    // Lists the units that end in the front of a chunk that one push takes: their lines go out at once. Lent three bytes and a mark, a push takes
+    // one byte at least. What it is lent is short enough, so it is not refused.
+    fn list_some(&mut self, chunk: &[u8]) -> Result<usize, Failure>
+        requires in_bounds { 1 ≤ length chunk.now }
+        requires few { length chunk.now ≤ most }
+        ensures some_listed { SomeListed chunk.now self.old.system.sent self.old.progress result self.new.system.sent self.new.progress }
+        ensures read { self.new.system.read ≡ self.old.system.read }
+    {
+        let called = self
+            .progress
+            .reader
+            .push(chunk, &mut self.room, &mut self.marks)
+            .unwrap();
+        self.tell(called);
+        self.system.hand_out(&self.text)?;
+        Ok(called.taken)
     }
-    let piece = list_chunk(rt, p, &chunk[..n], room, marks, text, sent, status);
-    piece.progress
-}
 
-// The end of the input: a reset ends the open unit, and its line and the total are told.
-fn finish(
-    rt: HostRuntime,
-    p: Progress,
-    room: &mut [u8],
-    marks: &mut [u64],
-    text: &mut [u8],
-    sent: &mut u64,
-    status: &mut u8,
-)
-    requires { Ready p.reader.zeros 0 (length room.old) (length marks.old) (length text.old) }
-    ensures finishes { Finishes sent.old p sent.new }
-    ensures kept_or_failed { KeptOrFailed status.old status.new }
-{
-    let reader = p.reader;
-    let tally = p.tally;
-    let r = reader.reset(room, marks);
-    let marked = r.marked;
-    let all = tally.tally(marks, marked, r.written);
-    let lines = text::unit_lines(text, marks, marked, tally.units);
-    let filled = text::total_line(text, lines, all.units);
-    system::hand_out(rt, text, filled, sent, status);
-}
-
-// Lists the whole input. Nothing says that an input ends, so turns are counted down: none reaches 2^64 of them.
-fn list_all(
-    rt: HostRuntime,
-    chunk: &mut [u8],
-    room: &mut [u8],
-    marks: &mut [u64],
-    text: &mut [u8],
-    read: &mut u64,
-    sent: &mut u64,
-    status: &mut u8,
-)
-    requires status_value { status.old ≡ more_to_come }
-    requires ready { Ready 0 (length chunk.old) (length room.old) (length marks.old) (length text.old) }
-    requires in_bounds { (1 ≤ length chunk.old) × WasRead [] read.old × WasSent [] sent.old }
-    ensures { ListingCameTo read.new sent.new status.new }
-{
-    let mut progress = Progress {
-        reader: AnnexBReader::new(),
-        tally: Tally::new(),
-    };
-    let mut turns = u64::MAX;
-    while turns > 0 {
-        progress = turn(rt, progress, chunk, room, marks, text, read, sent, status);
-        if *status == END {
-            finish(rt, progress, room, marks, text, sent, status);
-            return;
+    // Lists the units that end in a chunk: all of it is taken, unless a write fails.
+    fn list_chunk(&mut self, chunk: &[u8]) -> Result<(), Failure>
+        requires { length chunk.now ≤ most }
+        ensures chunk_listed { ChunkListed chunk.now self.old.system.sent self.old.progress result self.new.system.sent self.new.progress }
+        ensures read { self.new.system.read ≡ self.old.system.read }
+    {
+        let mut rest = chunk;
+        // No `for`: how long a piece is, only the push that takes it tells.
+        while !rest.is_empty() {
+            let taken = self.list_some(rest)?;
+            rest = &rest[taken..];
         }
-        if *status != MORE {
-            return;
+        Ok(())
+    }
+
+    // The end of the input: a reset ends the open unit, and its line and the total are told. What it gives fits, so it is not refused.
+    fn finish(&mut self) -> Result<(), Failure>
+        ensures finishes { Finishes self.old.system.sent self.old.progress self.new.system.sent }
+        ensures failed { IfErr result (λ e. e ≡ Failure.Write) }
+        ensures read { self.new.system.read ≡ self.old.system.read }
+    {
+        let called = self
+            .progress
+            .reader
+            .reset(&mut self.room, &mut self.marks)
+            .unwrap();
+        self.tell(called);
+        text::total_line(&mut self.text, self.progress.tally.units);
+        self.system.hand_out(&self.text)
+    }
+
+    // Lists the whole input. A read may give any part of what was asked for. Nothing says that an input ends, so reads are counted: none comes to
+    // 2^64 of them.
+    fn list_all(&mut self) -> Result<(), Failure>
+        requires { Carries [] self.old.system.read self.old.system.sent self.old.progress }
+        ensures { ListingCameTo self.new.system.read self.new.system.sent result }
+    {
+        let mut chunk = [0; ROOM];
+        for _ in 0..u64::MAX {
+            let n = self.system.take_in(&mut chunk)?;
+            if n == 0 {
+                return self.finish();
+            }
+            self.list_chunk(&chunk[..n])?;
         }
-        turns -= 1;
+        Err(Failure::Read)
     }
 }
 
-// What failed is told on standard error, and by the exit status that the program is to end with.
+// A read that failed is told on standard error here, a write where it failed; both by the exit status that the program is to end with.
 pub fn list_standard_input(rt: HostRuntime) -> ExitCode {
-    let mut chunk = io::large_buffer();
-    let mut room = io::large_buffer();
-    let mut marks = mark_room();
-    let mut text = io::large_buffer();
-    let mut read: u64 = 0;
-    let mut sent: u64 = 0;
-    let mut status = MORE;
-    list_all(
-        rt,
-        &mut chunk,
-        &mut room,
-        &mut marks,
-        &mut text,
-        &mut read,
-        &mut sent,
-        &mut status,
-    );
-    system::complain_of_read(rt, status, read);
-    if status == END {
-        ExitCode::SUCCESS
-    } else {
-        ExitCode::FAILURE
+    let mut listing = Listing::new(rt);
+    match listing.list_all() {
+        Ok(()) => return ExitCode::SUCCESS,
+        Err(Failure::Read) => listing.system.complain_of_read(),
+        Err(Failure::Write) => {}
     }
+    ExitCode::FAILURE
 }

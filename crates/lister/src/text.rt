@@ -1,65 +1,64 @@
-// The listing's lines, in ASCII, one behind another in a buffer.
-ghost use Rattle.std.specs.Prelude.{◌+◌, ◌*◌, ◌≤◌, length, take};
+// The listing's lines, in ASCII, one behind another.
+ghost use Rattle.std.specs.Prelude.{◌≡◌, ◌+◌, ◌*◌, ◌≤◌, ◌++◌, length};
 ghost use Rattle.lister.specs.Text.{decimal, unit_line, total_line, lines_by, modulo};
-ghost use Rattle.lister.specs.Buffer.{Puts};
 
-// Copies a word to the place `at`; answers the place behind it.
-fn put(text: &mut [u8], at: usize, word: &[u8]) -> usize
-    requires { at + length word.now ≤ length text.old }
-    ensures { Puts text.old at word.now text.new result }
+use arrayvec::ArrayVec;
+
+// A line for each mark, and the total, fit. What each function needs of it stands in its requires, since each needs another length.
+const TEXT_SPACE: usize = 65_536;
+
+// The memory is fixed, whatever the stream: so this is no String.
+pub(crate) type Text = ArrayVec<u8, TEXT_SPACE>;
+
+fn put(text: &mut Text, word: &[u8])
+    requires { length text.old.items + length word.now ≤ TEXT_SPACE }
+    ensures { text.new.items ≡ text.old.items ++ word.now }
 {
-    let mut i = 0;
-    while i < word.len() {
-        text[at + i] = word[i];
-        i += 1;
-    }
-    at + i
+    text.try_extend_from_slice(word).unwrap()
 }
 
 // A number, which has twenty digits at most.
-fn put_decimal(text: &mut [u8], at: usize, n: u64) -> usize
-    requires { at + 20 ≤ length text.old }
-    ensures { Puts text.old at (decimal n) text.new result × (result ≤ at + 20) }
+#[tactic(auto, using(crate::proofs::Digits::decimal_is))]
+fn put_decimal(text: &mut Text, n: u64)
+    requires { length text.old.items + 20 ≤ TEXT_SPACE }
+    ensures digits { text.new.items ≡ text.old.items ++ decimal n }
+    ensures few { length text.new.items ≤ length text.old.items + 20 }
 {
-    let mut digits = [0u8; 20];
-    let k = io::decimal(n, &mut digits);
-    put(text, at, &digits[..k])
+    let mut digits = [0; 20];
+    let count = io::decimal(n, &mut digits);
+    put(text, &digits[..count]);
 }
 
 // The line `unit I LENGTH`, of 47 bytes at most.
-fn unit_line(text: &mut [u8], at: usize, index: u64, bytes: u64) -> usize
-    requires { at + 47 ≤ length text.old }
-    ensures { Puts text.old at (unit_line index bytes) text.new result × (result ≤ at + 47) }
+fn unit_line(text: &mut Text, index: u64, bytes: u64)
+    requires { length text.old.items + 47 ≤ TEXT_SPACE }
+    ensures line { text.new.items ≡ text.old.items ++ unit_line index bytes }
+    ensures few { length text.new.items ≤ length text.old.items + 47 }
 {
-    let a = put(text, at, b"unit ");
-    let b = put_decimal(text, a, index);
-    let c = put(text, b, b" ");
-    let d = put_decimal(text, c, bytes);
-    put(text, d, b"\n")
+    put(text, b"unit ");
+    put_decimal(text, index);
+    put(text, b" ");
+    put_decimal(text, bytes);
+    put(text, b"\n");
 }
 
-// A line for each of the first `count` lengths; `first` is the index of the first unit.
-pub(crate) fn unit_lines(text: &mut [u8], lengths: &[u64], count: usize, first: u64) -> usize
-    requires { (count ≤ length lengths.now) × (count * 47 ≤ length text.old) }
-    ensures { Puts text.old 0 (lines_by modulo first (take count lengths.now)) text.new result × (result ≤ count * 47) }
+// A line for each of these lengths; `first` is the index of the first unit.
+pub(crate) fn unit_lines(text: &mut Text, lengths: &[u64], first: u64)
+    requires { length text.old.items + length lengths.now * 47 ≤ TEXT_SPACE }
+    ensures lines { text.new.items ≡ text.old.items ++ lines_by modulo first lengths.now }
+    ensures few { length text.new.items ≤ length text.old.items + length lengths.now * 47 }
 {
-    let mut at = 0;
-    let mut index = first;
-    let mut i = 0;
-    while i < count {
-        at = unit_line(text, at, index, lengths[i]);
-        index = std::num::wrapping_add_u64(index, 1);
-        i += 1;
+    for (i, bytes) in lengths.iter().enumerate() {
+        unit_line(text, first.wrapping_add(i as u64), *bytes);
     }
-    at
 }
 
-// The line `units N`, of 27 bytes at most.
-pub(crate) fn total_line(text: &mut [u8], at: usize, n: u64) -> usize
-    requires { at + 27 ≤ length text.old }
-    ensures { Puts text.old at (total_line n) text.new result }
+// The line `units N`, of 27 bytes at most, behind the others.
+pub(crate) fn total_line(lines: &mut Text, n: u64)
+    requires { length lines.old.items + 27 ≤ TEXT_SPACE }
+    ensures { lines.new.items ≡ lines.old.items ++ total_line n }
 {
-    let a = put(text, at, b"units ");
-    let b = put_decimal(text, a, n);
-    put(text, b, b"\n")
+    put(lines, b"units ");
+    put_decimal(lines, n);
+    put(lines, b"\n");
 }

@@ -1,5 +1,6 @@
 -- The entry checks, by what they test.
-use mathlib.Core.Path.{◌≡◌, refl, sym, ◌∙◌}
+use Rattle.std.specs.Prelude.{Result, Ok, Err}
+use mathlib.Core.Path.{◌≡◌, refl, sym, ap, ◌∙◌}
 use mathlib.Core.Bool.{Bool, true, false, cond, ◌||◌}
 use mathlib.Core.List.{List, [], ◌∷◌}
 use Prim.Native.Nat.{ℕ, zero, suc, ◌≤◌, ◌<◌}
@@ -8,10 +9,13 @@ use borrow.Author.Tests.{ltb-false, eqb-false}
 use lib.Dec.{ltb, eqb, lit≤}
 use lib.ListN.{length}
 use Rattle.desk.specs.Numbers.{most, any_over, entry_of, bad_geometry, done}
+use Rattle.desk.specs.Refusing.{number_of, answered}
+use Rattle.desk.specs.declared.refusal.Refusal.{Refusal}
 use Rattle.desk.proofs.Entering.{entry_passed, entry_done, entry_long, entry_bad}
-use Rattle.bits.specs.Reading.{past_end, Entered, size as bits_in}
+use Rattle.desk.proofs.Refusing.{number_some}
+use Rattle.bits.specs.Reading.{Ans, no, unless, past_end, Entered, size as bits_in}
 use Rattle.bits.proofs.Refusing.{not_past, is_past}
-use Rattle.bits.proofs.Entry.{enters, neither}
+use Rattle.bits.proofs.Entry.{enters, neither, refused}
 use Rattle.pps.specs.Rule.{most_units, bad_picture, bad_group_count}
 use Rattle.pps.specs.Answer.{first_of, entry_for}
 
@@ -19,18 +23,43 @@ first_nonzero : (a b : ℕ) → (a ≡ 0 → ⊥) → first_of a b ≡ a
 first_nonzero zero b h = absurd (h refl)
 first_nonzero (suc a) b h = refl
 
-module _ (s : List ℕ) (p room width size : ℕ) (bad_count past : Bool) (is : past ≡ past_end s p) (k : ℕ)
-    (e : k ≡ entry_of (length s ∷ room ∷ 0 ∷ []) past) where
-  -- 1 and 2 come first
-  pub entry_first : (k ≡ 0 → ⊥) → k ≡ entry_for s p room width size bad_count
-  unfolding entry_for
-  entry_first h = rw (← is, ← e) (sym (first_nonzero k _ h))
+-- 11, by the first of two tests that answer it, or else by the second
+by_first : (a b : Bool) (w : Refusal) → number_of w ≡ cond a bad_geometry done → cond (a || b) bad_geometry done ≡ number_of w
+by_first true b w q = sym q
+by_first false b w q = absurd (let n = number_some w in let z : ⊥ = omega arith in z)
 
-  -- and then 11
-  pub entry_then : k ≡ 0 → (bad : Bool) → (bad_picture width size || bad_count) ≡ bad
-      → cond bad bad_geometry done ≡ entry_for s p room width size bad_count
+by_second : (a b : Bool) (k : ℕ) → done ≡ cond a bad_geometry done → k ≡ cond b bad_geometry done → cond (a || b) bad_geometry done ≡ k
+by_second true b k z q = absurd (let y : ⊥ = omega arith in y)
+by_second false b k z q = sym q
+
+-- what a call makes of them: its first checks answer r, then its picture is tested, and then its count of groups
+module _ (s : List ℕ) (p room width size : ℕ) (bad_count : Bool) {past : Bool} (is : past ≡ past_end s p) {r : Result Unit Refusal}
+    (e : answered r ≡ entry_of (length s ∷ room ∷ 0 ∷ []) past) where
+  -- 1 and 2 come first
+  pub entry_first : {w : Refusal} → r ≡ Err w → entry_for s p room width size bad_count ≡ number_of w
   unfolding entry_for
-  entry_then h bad b = rw (← is, sym e ∙ h, b)
+  entry_first {w} h =
+      let k : number_of w ≡ entry_of (length s ∷ room ∷ 0 ∷ []) past = ap answered (sym h) ∙ e in
+      let n = number_some w in
+      rw (← is, ← k) (first_nonzero (number_of w) _ (λ z. omega arith))
+
+  module _ {u : Unit} (h : r ≡ Ok u) where
+    -- and then 11
+    entry_then : entry_for s p room width size bad_count ≡ cond (bad_picture width size || bad_count) bad_geometry done
+    unfolding entry_for
+    entry_then = let k : done ≡ entry_of (length s ∷ room ∷ 0 ∷ []) past = ap answered (sym h) ∙ e in rw (← is, ← k)
+
+    pub entry_picture : (w : Refusal) → number_of w ≡ cond (bad_picture width size) bad_geometry done
+        → entry_for s p room width size bad_count ≡ number_of w
+    entry_picture w q = entry_then ∙ by_first (bad_picture width size) bad_count w q
+
+    pub entry_count : {k : ℕ} → done ≡ cond (bad_picture width size) bad_geometry done → k ≡ cond bad_count bad_geometry done
+        → entry_for s p room width size bad_count ≡ k
+    entry_count {k} z q = entry_then ∙ by_second (bad_picture width size) bad_count k z q
+
+-- a refusal by them is the answer
+pub refused_at : {A : Type 0} (w : Refusal) {k : ℕ} → k ≡ number_of w → (x : Ans A) → unless no k x ≡ no (number_of w)
+refused_at w {k} e x = let n = number_some w in sym (refused no (number_of w) k (sym e) x (λ z. omega arith))
 
 -- ---- what passes them
 
@@ -78,20 +107,6 @@ passed s p room width size bad_count e =
 pub groups_few : (n : ℕ) → bad_group_count n ≡ false → (1 ≤ n) × (n ≤ 7)
 unfolding bad_group_count
 groups_few n e = let b = neither (ltb n 1) (ltb 7 n) e in (ltb-false n 1 b.0, ltb-false 7 n b.1)
-
--- so the reader of slice groups knows
-pub record GoodRead (s : List ℕ) (p width size n : ℕ) : Type 0 where
-  pub entered : Entered s p
-  pub wide : 0 < width
-  pub limit : size ≤ most_units
-  pub some : 1 ≤ n
-  pub few : n ≤ 7
-
-pub good_read : (s : List ℕ) (p room width size n : ℕ) → entry_for s p room width size (bad_group_count n) ≡ 0 → GoodRead s p width size n
-good_read s p room width size n e =
-    let good = passed s p room width size (bad_group_count n) e in
-    let count = groups_few n good.count in
-    record { entered = good.entered; wide = good.wide; limit = good.limit; some = count.0; few = count.1 }
 
 -- ---- each number, given exactly where document 01 says
 

@@ -1,5 +1,5 @@
 -- The width of a group id, and rows of ids.
-use mathlib.Core.Path.{◌≡◌, refl, ap, ◌∙◌, subst}
+use mathlib.Core.Path.{◌≡◌, refl, ap, subst}
 use mathlib.Core.List.{List, ◌∷◌}
 use mathlib.Core.Bool.{Bool, true, false, cond}
 use Prim.Native.Nat.{ℕ, zero, suc, ◌+◌, ◌*◌, ◌^◌, ◌≤◌, ◌<◌}
@@ -7,7 +7,6 @@ use native.Mathlib.Omega.{arith}
 use native.Mathlib.Nat.{pow-suc}
 use borrow.Author.Tests.{leb-true, leb-false}
 use lib.Dec.{leb}
-use lib.ListN.{take}
 use native.Mathlib.Nat.{suc-mul}
 use Rattle.bits.specs.Reading.{Ans, got, no, and_then, read_bits, size, Entered, long, past, WhyBits, bits_entry, bits_wide, bits_short}
 use Rattle.bits.proofs.Value.{pow_lt_cancel}
@@ -16,9 +15,6 @@ use Rattle.bits.proofs.Refusing.{bits_number}
 use Rattle.bits.proofs.Codes.{length_bits_of}
 use Rattle.pps.specs.Rule.{least_from, id_bits, row}
 use Rattle.pps.specs.Codes.{LeastPower}
-use Rattle.pps.specs.Step.{RowSo, IdsPut}
-use Rattle.desk.specs.Room.{with_front}
-use Rattle.pps.proofs.Rows.{row_read, row_stands}
 
 least_from_lem : (count b m : ℕ) → m ≤ 2 ^ (b + count) → ((k : ℕ) → m ≤ 2 ^ k → b ≤ k) → LeastPower m (least_from count b m)
 unfolding least_from
@@ -107,14 +103,3 @@ module _ (b : ℕ) (narrow : b ≤ 32) where
           let l = length_bits_of b v in
           rw (ih q (record { small = g.small; within = omega arith }) (omega arith))
       go (no j) f ih = ap no (bits_number s p g j b narrow f)
-
--- a row of ids that came to its end
-pub ids_put : (b count : ℕ) (s : List ℕ) (p : ℕ) (ids : List ℕ) (i : ℕ) (xs : List ℕ) (at : ℕ)
-    → RowSo (λ s p. read_bits s p b) s count p ids i xs at → count ≤ i
-    → IdsPut s p count b ids xs at
-ids_put b count s p ids i xs at so h =
-    let e : i ≡ count = omega (arith, so.within) in
-    record {
-      read = row_read (λ s p. read_bits s p b) s count p ids i xs at so h ∙ ap (λ (k : ℕ). got (take k xs) at) e;
-      memory = row_stands (λ s p. read_bits s p b) s count p ids i xs at so h ∙ ap (λ (k : ℕ). with_front ids (take k xs)) e;
-    }

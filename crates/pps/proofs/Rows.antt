@@ -1,64 +1,71 @@
 -- A row of fields, read into a list from its front.
-use mathlib.Core.Path.{◌≡◌, refl, sym, ap, ◌∙◌}
+use Rattle.std.specs.Prelude.{Result, Ok, Err}
+use mathlib.Core.Path.{◌≡◌, refl, sym, ap, subst, ◌∙◌}
 use mathlib.Core.List.{List, [], ◌∷◌, ◌++◌, append_assoc, append-nil}
 use Prim.Native.Nat.{ℕ, zero, suc, ◌+◌, ◌-◌, ◌≤◌, ◌<◌}
 use native.Mathlib.Omega.{arith}
 use native.Mathlib.Numerals.{add-one}
-use lib.ListN.{length, take, drop, set, length-set, take-append-drop}
-use lib.Seq.{take-suc-set, length-take-le, drop-set-lt, drop-drop}
-use Rattle.bits.specs.Reading.{Ans, got, no, and_then}
+use lib.ListN.{length, take, set, length-set}
+use lib.Seq.{take-suc-set}
+use Rattle.std.proofs.lemmas.List.{take_all}
+use Rattle.desk.specs.Refusing.{number_of}
+use Rattle.desk.specs.declared.refusal.Refusal.{Refusal}
+use Rattle.bits.specs.Reading.{Ans, got, no, and_then, answer}
+use Rattle.pps.specs.declared.fields.FieldReader.{FieldReader}
 use Rattle.pps.specs.Rule.{row}
-use Rattle.pps.specs.Step.{before, RowSo}
-use Rattle.desk.specs.Room.{with_front}
-
-before_none : {A : Type 0} (x : Ans (List A)) → before [] x ≡ x
-before_none (got vs q) = refl
-before_none (no k) = refl
+use Rattle.pps.specs.Step.{ReadsField, before, RowSo}
+use Rattle.pps.proofs.Back.{field_is}
 
 before_more : {A : Type 0} (l : List A) (a : A) (x : Ans (List A)) → before l (and_then x (λ rest r. got (a ∷ rest) r)) ≡ before (l ++ (a ∷ [])) x
 before_more l a (got vs q) = ap (λ (xs : List _). got xs q) (sym (append_assoc l (a ∷ []) vs))
 before_more l a (no k) = refl
 
-module _ {A : Type 0} (field : List ℕ → ℕ → Ans A) (s : List ℕ) (count p : ℕ) (xs₀ : List A) where
-  step : (i at : ℕ) → i < count
-      → row field (count - i) s at ≡ and_then (field s at) (λ a q. and_then (row field (count - (i + 1)) s q) (λ rest r. got (a ∷ rest) r))
+module _ {A : Type 0} (field : List ℕ → ℕ → Ans A) (from : FieldReader) (count : ℕ) where
+  abbrev s : List ℕ
+  s = from.s.now
+
+  abbrev whole : Ans (List A)
+  whole = row field count s from.at.at.0
+
+  step : (i p : ℕ) → i < count
+      → row field (count - i) s p ≡ and_then (field s p) (λ a q. and_then (row field (count - (i + 1)) s q) (λ rest r. got (a ∷ rest) r))
   unfolding row
-  step i at h = let e : count - i ≡ suc (count - (i + 1)) = omega arith in rw e
+  step i p h = let e : count - i ≡ suc (count - (i + 1)) = omega arith in rw e
 
-  pub row_first : count ≤ length xs₀ → RowSo field s count p xs₀ 0 xs₀ p
-  row_first h =
-      record { room = h; within = omega arith; long = refl; left = let e : count - 0 ≡ count = omega arith in rw (e, before_none); rest = refl }
+  module _ (i : ℕ) (xs : List A) (at : FieldReader) (so : RowSo field from count i xs at) where
+    -- what the next field answers
+    next_is : {after : FieldReader} {r x : Result A Refusal} → ReadsField at after r (field at.s.now at.at.at.0) → r ≡ x
+        → field s at.at.at.0 ≡ answer x after.at
+    next_is {after} {r} {x} h e = subst (λ (t : List ℕ). field t at.at.at.0 ≡ answer x after.at) so.same (field_is h e)
 
-  module _ (i : ℕ) (xs : List A) (at : ℕ) (so : RowSo field s count p xs₀ i xs at) where
-    pub row_more : (a : A) (q : ℕ) → i < count → field s at ≡ got a q → RowSo field s count p xs₀ (i + 1) (set xs i a) q
-    row_more a q h e =
-        let hr : i < length xs = omega (arith, so.room, so.long) in
-        let one : row field (count - i) s at ≡ and_then (row field (count - (i + 1)) s q) (λ rest r. got (a ∷ rest) r) = rw (step i at h) (simp e) in
+    pub row_more : {after : FieldReader} {r : Result A Refusal} {a : A} → i < count → ReadsField at after r (field at.s.now at.at.at.0) → r ≡ Ok a
+        → RowSo field from count (i + 1) (set xs i a) after
+    row_more {after} {r} {a} h read is =
+        let hr : i < length xs = omega (arith, so.long) in
+        let q : ℕ = after.at.at.0 in
+        let one : row field (count - i) s at.at.at.0 ≡ and_then (row field (count - (i + 1)) s q) (λ rest r. got (a ∷ rest) r) =
+        rw (step i at.at.at.0 h) (simp (next_is read is)) in
         record {
-          room = so.room;
+          same = read.same ∙ so.same;
           within = omega arith;
           long = simp length-set so.long;
           left = so.left ∙ ap (before (take i xs)) one ∙ before_more (take i xs) a (row field (count - (i + 1)) s q)
               ∙ ap (λ (l : List A). before l (row field (count - (i + 1)) s q))
               (sym (ap (λ (n : ℕ). take n (set xs i a)) (add-one i) ∙ take-suc-set xs i a hr));
-          rest = drop-set-lt (i + 1) xs i a (omega arith) ∙ sym (drop-drop 1 i xs) ∙ ap (drop 1) so.rest ∙ drop-drop 1 i xs₀;
         }
 
-    pub row_stops : (k : ℕ) → i < count → field s at ≡ no k → row field count s p ≡ no k
-    row_stops k h e =
-        let one : row field (count - i) s at ≡ no k = rw (step i at h) (simp e) in
+    pub row_stops : {after : FieldReader} {r : Result A Refusal} {e : Refusal} → i < count → ReadsField at after r (field at.s.now at.at.at.0)
+        → r ≡ Err e → whole ≡ no (number_of e)
+    row_stops {after} {r} {e} h read is =
+        let one : row field (count - i) s at.at.at.0 ≡ no (number_of e) = rw (step i at.at.at.0 h) (simp (next_is read is)) in
         so.left ∙ ap (before (take i xs)) one
 
-    -- at the end: what was read, and where it stands
-    pub row_read : count ≤ i → row field count s p ≡ got (take i xs) at
+    -- at the end
+    pub row_read : count ≤ i → whole ≡ got xs at.at.at.0
     unfolding row
-    row_read h = let e : count - i ≡ 0 = omega arith in so.left ∙ rw (e, append-nil)
-
-    pub row_stands : count ≤ i → xs ≡ with_front xs₀ (take i xs)
-    unfolding with_front
-    row_stands h =
-        let long : length (take i xs) ≡ i = length-take-le i xs (omega (arith, so.room, so.long, so.within)) in
-        sym (take-append-drop i xs) ∙ ap (λ (l : List A). take i xs ++ l) (so.rest ∙ ap (λ (n : ℕ). drop n xs₀) (sym long))
+    row_read h =
+        let e : count - i ≡ 0 = omega arith in
+        so.left ∙ rw (e, append-nil) (ap (λ (l : List A). got l at.at.at.0) (take_all i xs (omega (arith, so.long))))
 
 -- a row that is read has as many fields as it was to have
 pub row_length : {A : Type 0} (field : List ℕ → ℕ → Ans A) (count : ℕ) (s : List ℕ) (p : ℕ) (vs : List A) (q : ℕ) → row field count s p ≡ got vs q

@@ -1,48 +1,33 @@
-// Single fields, and the widths and cases that a number stands for.
-ghost use Rattle.std.specs.Prelude.{◌≡◌, ◌≤◌};
-ghost use Rattle.bits.specs.Reading.{Reads};
-ghost use Rattle.pps.specs.Rule.{ue_below, id_bits};
-ghost use Rattle.pps.specs.Answer.{change_type};
+// Fields, read one behind another.
+ghost use Rattle.desk.specs.Refusing.{number_of};
+ghost use Rattle.pps.specs.Rule.{ue_below};
+ghost use Rattle.pps.specs.Step.{ReadsField};
 
-use super::SliceGroupChangeType;
-use bits::{BitReader, Bits};
+use bits::BitReader;
+use desk::Refusal;
 
-// ue(v) of less than the limit, or the number.
-#[tactic(auto, unfolding(crate::specs::Rule::ue_below))]
-pub(crate) fn read_ue_below(s: &[u8], from: BitReader, limit: u32, number: u8) -> Bits
-    ensures { Reads from result (ue_below limit number s.now from.at.0) }
-{
-    let field = from.read_ue(s);
-    let Bits::Value(value, next) = field else {
-        return field;
-    };
-    if value >= limit {
-        return Bits::Refused(number, from);
-    }
-    Bits::Value(value, next)
+// A read under way: the bytes, and a reader at the next field. A refusal lets it go, so a lent reader moves only once all is read.
+#[derive(Clone, Copy)]
+pub(crate) struct FieldReader<'a> {
+    pub s: &'a [u8],
+    pub at: BitReader,
 }
 
-// The bits of a group id: the least b with 2^b at least num_slice_groups_minus1 + 1.
-#[tactic(auto, using(crate::proofs::Ids::id_bits_1, crate::proofs::Ids::id_bits_2, crate::proofs::Ids::id_bits_3))]
-pub(crate) fn id_bits(num_slice_groups_minus1: u32) -> u32
-    requires { (1 ≤ num_slice_groups_minus1) × (num_slice_groups_minus1 ≤ 7) }
-    ensures { result ≡ id_bits num_slice_groups_minus1 }
-{
-    match num_slice_groups_minus1 {
-        1 => 1,
-        2..=3 => 2,
-        _ => 3,
-    }
-}
-
-impl SliceGroupChangeType {
-    pub(crate) fn from_id(id: u32) -> SliceGroupChangeType
-        ensures { result ≡ change_type id }
+// Here and in the readers of each map type, each field's answer is taken apart by `let .. else`, as document 01 asks, and not by `?`. A public read
+// makes one of these of what it is lent and writes the reader back: two lines, where a function that took the read as a closure would be no shorter.
+impl FieldReader<'_> {
+    // ue(v) of less than the limit, or the refusal.
+    #[tactic(auto, unfolding(crate::specs::Rule::ue_below))]
+    pub(crate) fn ue_below(&mut self, limit: u32, over: Refusal) -> Result<u32, Refusal>
+        ensures { ReadsField self.old self.new result (ue_below limit (number_of over) self.old.s.now self.old.at.at.0) }
     {
-        match id {
-            3 => SliceGroupChangeType::BoxOut,
-            4 => SliceGroupChangeType::RasterScan,
-            _ => SliceGroupChangeType::WipeOut,
+        let field = self.at.read_ue(self.s);
+        let Ok(value) = field else {
+            return field;
+        };
+        if value >= limit {
+            return Err(over);
         }
+        Ok(value)
     }
 }

@@ -1,59 +1,57 @@
-// Type 6: ids in a lent buffer.
-ghost use Rattle.pps.specs.Step.{IdsFit, IdsPut, GoodIds};
-ghost use Rattle.pps.specs.Answer.{ReadsIds};
+// Type 6: ids in a lent buffer. Each field's answer is taken apart by `let .. else`, as document 01 asks.
+ghost use Rattle.pps.specs.Step.{ReadsIds, IdsFit, IdsPut};
 
-use super::answers::{plain, refused};
-use super::{SliceGroup, SliceGroupRead, fields};
-use bits::{BitReader, Bits, Moved};
+use super::fields::FieldReader;
+use super::picture::{GroupCount, Picture};
+use super::{SliceGroup, SliceGroupRead, SliceGroups};
+use desk::Refusal;
 
-// count ids of width bits into the front of `ids`. The bits are all there, so no field is refused here.
-fn put_ids(s: &[u8], from: BitReader, count: usize, width: u32, ids: &mut [u8]) -> BitReader
-    requires { IdsFit s.now from.at.0 count width ids.old }
-    ensures { IdsPut s.now from.at.0 count width ids.old ids.new result.at.0 }
-{
-    let mut at = from;
-    let mut i: usize = 0;
-    while i < count {
-        let field = at.read(s, width);
-        let Bits::Value(id, after) = field else {
-            return at;
+impl FieldReader<'_> {
+    // An id of that many bits for each of `ids`. The bits are all there, so no field is refused here.
+    fn put_ids(&mut self, width: u32, ids: &mut [u8])
+        requires { IdsFit self.old.s.now self.old.at.at.0 width ids.old }
+        ensures { IdsPut self.old self.new width ids.old ids.new }
+    {
+        for id in ids {
+            let field = self.at.read(self.s, width);
+            let Ok(value) = field else {
+                return;
+            };
+            *id = value as u8;
+        }
+    }
+
+    // Nothing is written before the bits of every id and room for them are known to be there.
+    pub(crate) fn group_ids(
+        &mut self,
+        count: GroupCount,
+        picture: Picture,
+        ids: &mut [u8],
+    ) -> Result<SliceGroupRead, Refusal>
+        ensures { ReadsIds self.old self.new count.minus1 picture.size ids.old result ids.new }
+    {
+        let first = self.ue_below(picture.size, Refusal::BadPicSize);
+        let Ok(pic_size_in_map_units_minus1) = first else {
+            return Err(first.unwrap_err());
         };
-        ids[i] = id as u8;
-        at = after;
-        i += 1;
+        let width = count.id_bits();
+        let bits = (pic_size_in_map_units_minus1 + 1) * width;
+        let mut ahead = self.at;
+        let all = ahead.skip(self.s, bits);
+        let Ok(()) = all else {
+            return Err(all.unwrap_err());
+        };
+        let many = pic_size_in_map_units_minus1 as usize + 1;
+        if many > ids.len() {
+            return Err(Refusal::NoRoom);
+        }
+        self.put_ids(width, &mut ids[..many]);
+        let group = SliceGroup::ExplicitAssignment {
+            pic_size_in_map_units_minus1,
+        };
+        Ok(SliceGroupRead {
+            groups: SliceGroups::plain(group, count),
+            ids: many,
+        })
     }
-    at
-}
-
-// Nothing is written before the bits of every id and room for them are known to be there.
-pub(crate) fn read_group_ids(
-    s: &[u8],
-    from: BitReader,
-    next: BitReader,
-    num_slice_groups_minus1: u32,
-    size: u32,
-    ids: &mut [u8],
-) -> SliceGroupRead
-    requires { GoodIds s.now next.at.0 num_slice_groups_minus1 size }
-    ensures { ReadsIds s.now from next num_slice_groups_minus1 size ids.old result ids.new }
-{
-    let first = fields::read_ue_below(s, next, size, desk::BAD_PIC_SIZE);
-    let Bits::Value(pic_size_in_map_units_minus1, after) = first else {
-        return refused(first.number(), from);
-    };
-    let width = fields::id_bits(num_slice_groups_minus1);
-    let bits = (pic_size_in_map_units_minus1 + 1) * width;
-    let all = after.skip(s, bits);
-    let Moved::To(_) = all else {
-        return refused(all.number(), from);
-    };
-    let count = pic_size_in_map_units_minus1 as usize + 1;
-    if count > ids.len() {
-        return refused(desk::NO_ROOM, from);
-    }
-    let end = put_ids(s, after, count, width, ids);
-    let group = SliceGroup::ExplicitAssignment {
-        pic_size_in_map_units_minus1,
-    };
-    plain(end, group, num_slice_groups_minus1, count)
 }

@@ -1,48 +1,53 @@
 // Slice groups of a picture parameter set (Rec 7.3.2.2, 7.4.2.2), over the bit crate's promises alone.
 #![tactic(auto)]
 
+ghost use Rattle.std.specs.Prelude.{◌≡◌};
 ghost use Rattle.bits.specs.Reading.{Reads};
 ghost use Rattle.pps.specs.Rule.{num_ref_idx};
+ghost use Rattle.pps.specs.Answer.{change_number};
 
-mod answers;
 mod fields;
 mod group_ids;
 mod groups;
 mod picture;
 mod rectangles;
 
-use bits::{BitReader, Bits};
+use bits::BitReader;
+use desk::Refusal;
+use fields::FieldReader;
 
 // The picture that a parameter set is read for: its width in macroblocks, and its size in map units.
-#[derive(Clone, Copy)]
+#[derive(Clone, Copy, Debug, PartialEq, Eq)]
 pub struct Geometry {
     pub pic_width_in_mbs: u32,
     pub pic_size_in_map_units: u32,
 }
 
-#[derive(Clone, Copy)]
+#[derive(Clone, Copy, Debug, PartialEq, Eq)]
 pub struct SliceRect {
     pub top_left: u32,
     pub bottom_right: u32,
 }
 
-// What a rectangle's read finds: the rectangle and the reader behind it; or a number of the table, and the reader as it came.
-#[derive(Clone, Copy)]
-pub enum Rect {
-    Value(SliceRect, BitReader),
-    Refused(u8, BitReader),
-}
-
 // Map types 3, 4 and 5.
-#[derive(Clone, Copy)]
+#[derive(Clone, Copy, Debug, PartialEq, Eq)]
 pub enum SliceGroupChangeType {
-    BoxOut,
+    BoxOut = 3,
     RasterScan,
     WipeOut,
 }
 
+// The map type.
+impl From<SliceGroupChangeType> for u32 {
+    ghost from_gives = { λ change_type number. number ≡ change_number change_type };
+
+    fn from(change_type: SliceGroupChangeType) -> u32 {
+        change_type as u32
+    }
+}
+
 // The lists that Rust keeps in these cases stand beside the enum, in `SliceGroups`, and the ids in a lent buffer.
-#[derive(Clone, Copy)]
+#[derive(Clone, Copy, Debug, PartialEq, Eq)]
 pub enum SliceGroup {
     Interleaved,
     Dispersed,
@@ -57,8 +62,8 @@ pub enum SliceGroup {
     },
 }
 
-// Entries that the map type does not use are 0.
-#[derive(Clone, Copy)]
+// The lists are arrays of the most that there may be, since nothing is allocated here. Entries that the map type does not use are 0.
+#[derive(Clone, Copy, Debug, PartialEq, Eq)]
 pub struct SliceGroups {
     pub group: SliceGroup,
     pub num_slice_groups_minus1: u32,
@@ -66,19 +71,22 @@ pub struct SliceGroups {
     pub rectangles: [SliceRect; 7],
 }
 
-// What a read of slice groups gives: 0, the reader behind the last field, the groups and the count of ids written; or a number of the table, the
-// reader as it came, groups that are all 0, and no ids.
-#[derive(Clone, Copy)]
+// What a read of slice groups gives: the groups, and the count of ids written.
+#[derive(Clone, Copy, Debug, PartialEq, Eq)]
 pub struct SliceGroupRead {
-    pub number: u8,
-    pub reader: BitReader,
     pub groups: SliceGroups,
     pub ids: usize,
 }
 
-// num_ref_idx_l0_default_active_minus1 or its fellow.
-pub fn read_num_ref_idx(s: &[u8], from: BitReader) -> Bits
-    ensures { Reads from result (num_ref_idx s.now from.at.0) }
+// num_ref_idx_l0_default_active_minus1 or its fellow. A refusal leaves the reader as it came; the field is taken apart as in fields.rt.
+pub fn read_num_ref_idx(s: &[u8], reader: &mut BitReader) -> Result<u32, Refusal>
+    ensures { Reads reader.old reader.new result (num_ref_idx s.now reader.old.at.0) }
 {
-    fields::read_ue_below(s, from, 32, desk::BAD_NUM_REF_IDX)
+    let mut fields = FieldReader { s, at: *reader };
+    let field = fields.ue_below(32, Refusal::BadNumRefIdx);
+    let Ok(value) = field else {
+        return field;
+    };
+    *reader = fields.at;
+    Ok(value)
 }

@@ -1,22 +1,14 @@
-// A rectangle of map units (Rec 7.4.2.2, top_left and bottom_right).
-ghost use Rattle.std.specs.Prelude.{◌≡◌, ◌<◌};
+// A rectangle of map units (Rec 7.4.2.2, top_left and bottom_right). Each field's answer is taken apart by `let .. else`, as document 01 asks.
+ghost use Rattle.std.specs.Prelude.{◌≡◌};
 ghost use Rattle.pps.specs.Rule.{bottom_right_ok, rectangle};
-ghost use Rattle.pps.specs.Answer.{ReadsRect, ReadsRectIn, rect_answer};
-ghost use Rattle.bits.specs.Reading.{number};
+ghost use Rattle.pps.specs.Step.{ReadsField};
+ghost use Rattle.pps.specs.Answer.{ReadsRectIn};
 
-use super::{Geometry, Rect, SliceRect, picture};
-use bits::{BitReader, Bits};
-
-impl Rect {
-    pub fn number(self) -> u8
-        ensures { result ≡ number (rect_answer self) }
-    {
-        match self {
-            Rect::Value(_, _) => desk::DONE,
-            Rect::Refused(n, _) => n,
-        }
-    }
-}
+use super::fields::FieldReader;
+use super::picture::Picture;
+use super::{Geometry, SliceRect};
+use bits::BitReader;
+use desk::Refusal;
 
 // May a rectangle end at this map unit?
 #[tactic(auto, unfolding(crate::specs::Rule::bottom_right_ok))]
@@ -26,52 +18,46 @@ fn bottom_right_ok(size: u32, unit: u32) -> bool
     unit <= size
 }
 
-// Both fields, and then the checks of them.
-#[tactic(auto, unfolding(crate::specs::Rule::rectangle))]
-pub(crate) fn rectangle(s: &[u8], from: BitReader, width: u32, size: u32) -> Rect
-    requires { 0 < width }
-    ensures { ReadsRect from result (rectangle width size s.now from.at.0) }
-{
-    let first = from.read_ue(s);
-    let Bits::Value(top_left, next) = first else {
-        return Rect::Refused(first.number(), from);
-    };
-    let second = next.read_ue(s);
-    let Bits::Value(bottom_right, end) = second else {
-        return Rect::Refused(second.number(), from);
-    };
-    if top_left > bottom_right {
-        return Rect::Refused(desk::INVALID_TOP_LEFT, from);
-    }
-    if !bottom_right_ok(size, bottom_right) {
-        return Rect::Refused(desk::INVALID_BOTTOM_RIGHT, from);
-    }
-    if top_left % width > bottom_right % width {
-        return Rect::Refused(desk::INVALID_TOP_LEFT, from);
-    }
-    Rect::Value(
-        SliceRect {
+impl FieldReader<'_> {
+    // Both fields, and then the checks of them.
+    #[tactic(auto, unfolding(crate::specs::Rule::rectangle))]
+    pub(crate) fn rectangle(&mut self, picture: Picture) -> Result<SliceRect, Refusal>
+        ensures { ReadsField self.old self.new result (rectangle picture.width picture.size self.old.s.now self.old.at.at.0) }
+    {
+        let first = self.at.read_ue(self.s);
+        let Ok(top_left) = first else {
+            return Err(first.unwrap_err());
+        };
+        let second = self.at.read_ue(self.s);
+        let Ok(bottom_right) = second else {
+            return Err(second.unwrap_err());
+        };
+        if top_left > bottom_right {
+            return Err(Refusal::InvalidTopLeft);
+        }
+        if !bottom_right_ok(picture.size, bottom_right) {
+            return Err(Refusal::InvalidBottomRight);
+        }
+        if top_left % picture.width > bottom_right % picture.width {
+            return Err(Refusal::InvalidTopLeft);
+        }
+        Ok(SliceRect {
             top_left,
             bottom_right,
-        },
-        end,
-    )
+        })
+    }
 }
 
 impl SliceRect {
-    #[tactic(auto, unfolding(crate::specs::Answer::rect_of))]
-    pub fn read(s: &[u8], from: BitReader, geometry: Geometry) -> Rect
-        ensures { ReadsRectIn s.now from geometry result }
+    // A refusal leaves the reader as it came.
+    pub fn read(s: &[u8], reader: &mut BitReader, geometry: Geometry) -> Result<SliceRect, Refusal>
+        ensures { ReadsRectIn s.now reader.old geometry reader.new result }
     {
-        let number = picture::entry(s, from, 0, geometry, false);
-        if number != 0 {
-            return Rect::Refused(number, from);
-        }
-        rectangle(
-            s,
-            from,
-            geometry.pic_width_in_mbs,
-            geometry.pic_size_in_map_units,
-        )
+        desk::entry(s.len(), 0, 0, reader.past_end(s))?;
+        let picture = Picture::try_from(geometry)?;
+        let mut fields = FieldReader { s, at: *reader };
+        let rect = fields.rectangle(picture)?;
+        *reader = fields.at;
+        Ok(rect)
     }
 }

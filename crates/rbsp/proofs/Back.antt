@@ -3,7 +3,7 @@
 use Prim.Native.Nat.{ℕ, zero, suc, ◌≤◌}
 use native.Mathlib.Omega.{arith}
 use mathlib.Core.Path.{◌≡◌, refl, ap, ap₂, sym, ◌∙◌, subst}
-use mathlib.Core.Bool.{Bool, true, false, cond, not, ◌&&◌, false≢true, and-false}
+use mathlib.Core.Bool.{Bool, true, false, cond, not, ◌&&◌, and-false}
 use mathlib.Core.List.{List, [], ◌∷◌, ◌++◌, append_assoc, append-nil}
 use mathlib.Core.Option.{Option, none, some}
 use lib.ListN.{length}
@@ -30,15 +30,15 @@ not_removed (suc zero) b e = refl
 not_removed (suc (suc z)) zero e = refl
 not_removed (suc (suc z)) (suc zero) e = refl
 not_removed (suc (suc z)) (suc (suc zero)) e = refl
-not_removed (suc (suc z)) (suc (suc (suc zero))) e = absurd (false≢true (sym e))
+not_removed (suc (suc z)) (suc (suc (suc zero))) e = cc
 not_removed (suc (suc z)) (suc (suc (suc (suc b)))) e = refl
 
 not_forbidden : (z b : ℕ) → stuffs z b ≡ false → (two z && up_to2 b) ≡ false
 not_forbidden zero b e = refl
 not_forbidden (suc zero) b e = refl
-not_forbidden (suc (suc z)) zero e = absurd (false≢true (sym e))
-not_forbidden (suc (suc z)) (suc zero) e = absurd (false≢true (sym e))
-not_forbidden (suc (suc z)) (suc (suc zero)) e = absurd (false≢true (sym e))
+not_forbidden (suc (suc z)) zero e = cc
+not_forbidden (suc (suc z)) (suc zero) e = cc
+not_forbidden (suc (suc z)) (suc (suc zero)) e = cc
 not_forbidden (suc (suc z)) (suc (suc (suc zero))) e = refl
 not_forbidden (suc (suc z)) (suc (suc (suc (suc b)))) e = refl
 
@@ -47,7 +47,7 @@ stuffs_two z b e = go (two z) refl e
   where
     go : (c : Bool) → two z ≡ c → (c && up_to3 b) ≡ true → (two z ≡ true) × (up_to3 b ≡ true)
     go true q f = (q, f)
-    go false q f = absurd (false≢true f)
+    go false q f = cc
 
 -- a byte that goes out alone
 read_alone : (h g : List ℕ) (b : ℕ) → Readable h g → stuffs (trail g) b ≡ false → Readable (h ++ b ∷ []) (g ++ b ∷ [])
@@ -111,32 +111,32 @@ record Rewrites (s u : List ℕ) : Type 0 where
   zeros : trail (escape u) ≡ cond (ends_three s) 2 (trail s)
 
 two_is : (z : ℕ) → z ≤ 2 → two z ≡ true → z ≡ 2
-two_is zero h e = absurd (false≢true e)
-two_is (suc zero) h e = absurd (false≢true e)
+two_is zero h e = cc
+two_is (suc zero) h e = cc
 two_is (suc (suc z)) h e = omega arith
 
 is3_is : (b : ℕ) → is3 b ≡ true → b ≡ 3
-is3_is zero e = absurd (false≢true e)
-is3_is (suc zero) e = absurd (false≢true e)
-is3_is (suc (suc zero)) e = absurd (false≢true e)
+is3_is zero e = cc
+is3_is (suc zero) e = cc
+is3_is (suc (suc zero)) e = cc
 is3_is (suc (suc (suc zero))) e = refl
-is3_is (suc (suc (suc (suc b)))) e = absurd (false≢true e)
+is3_is (suc (suc (suc (suc b)))) e = cc
 
 -- behind two zeros, a byte that is neither forbidden nor removed wants no 03
 not_stuffed : (z b : ℕ) → (two z && up_to2 b) ≡ false → (two z && is3 b) ≡ false → stuffs z b ≡ false
 not_stuffed zero b e f = refl
 not_stuffed (suc zero) b e f = refl
-not_stuffed (suc (suc z)) zero e f = absurd (false≢true (sym e))
-not_stuffed (suc (suc z)) (suc zero) e f = absurd (false≢true (sym e))
-not_stuffed (suc (suc z)) (suc (suc zero)) e f = absurd (false≢true (sym e))
-not_stuffed (suc (suc z)) (suc (suc (suc zero))) e f = absurd (false≢true (sym f))
+not_stuffed (suc (suc z)) zero e f = cc
+not_stuffed (suc (suc z)) (suc zero) e f = cc
+not_stuffed (suc (suc z)) (suc (suc zero)) e f = cc
+not_stuffed (suc (suc z)) (suc (suc (suc zero))) e f = cc
 not_stuffed (suc (suc z)) (suc (suc (suc (suc b)))) e f = refl
 
 unbroken_before : (s : List ℕ) (b : ℕ) → first_break (s ++ b ∷ []) ≡ none → (first_break s ≡ none) × (forbids s b ≡ false)
 unbroken_before s b e = go (first_break s) refl
   where
     spared : (c : Bool) → cond c (some (length s)) none ≡ none → c ≡ false
-    spared true q = absurd (none≢some (sym q))
+    spared true q = cc
     spared false q = refl
 
     go : (r : Option ℕ) → first_break s ≡ r → (first_break s ≡ none) × (forbids s b ≡ false)
@@ -185,7 +185,7 @@ module _ (s : List ℕ) (b : ℕ) (w : Rewrites s (unescape s)) where
 
         right : (c : Bool) → (c && is3 b) ≡ true → is3 b ≡ true
         right true e = e
-        right false e = absurd (false≢true e)
+        right false e = cc
 
     write_alone : (two (trail s) && is3 b) ≡ false → Rewrites (s ++ b ∷ []) (unescape (s ++ b ∷ []))
     write_alone r =

@@ -4,7 +4,7 @@ use Prim.Native.Nat.{ℕ, zero, suc, ◌+◌, ◌<◌}
 use native.Mathlib.Nat.{not-suc-le-zero, le_of_suc-le-suc}
 use native.Mathlib.Omega.{arith}
 use mathlib.Core.Path.{◌≡◌, refl, ap, sym, ◌∙◌}
-use mathlib.Core.Bool.{Bool, true, false, cond, not, ◌&&◌, false≢true}
+use mathlib.Core.Bool.{Bool, true, false, cond, not, ◌&&◌}
 use mathlib.Core.List.{List, [], ◌∷◌, ◌++◌}
 use mathlib.Core.Logic.{◌⊎◌, inl, inr}
 use mathlib.Core.Option.{Option, none, some, some-injective}
@@ -13,7 +13,6 @@ use lib.Seq.{drop-nil}
 use Rattle.desk.specs.Push.{Out}
 use Rattle.desk.specs.Search.{up_to2, up_to3, stands, further, trail}
 use Rattle.desk.specs.Zeros.{two}
-use Rattle.desk.proofs.Search.{none≢some}
 use Rattle.rbsp.specs.Rule.{Legal, bad_four, first_break, ends_three}
 use Rattle.rbsp.specs.Step.{read_step, reader_after}
 use Rattle.rbsp.specs.declared.reader.ParseState.{ParseState}
@@ -27,10 +26,10 @@ record Unbroken (s : List ℕ) : Type 0 where
   four : bad_four s ≡ false
 
 broken : (a b : Bool) (r : Option ℕ) → cond a (some 2) (cond b (some 3) (further r)) ≡ none → (a ≡ false) × (b ≡ false) × (r ≡ none)
-broken true b r e = absurd (none≢some (sym e))
-broken false true r e = absurd (none≢some (sym e))
+broken true b r e = cc
+broken false true r e = cc
 broken false false none e = (refl, refl, refl)
-broken false false (some i) e = absurd (none≢some (sym e))
+broken false false (some i) e = cc
 
 break_tail : (x : ℕ) (s : List ℕ) → first_break (x ∷ s) ≡ none → Unbroken (x ∷ s) × (first_break s ≡ none)
 break_tail x s e = let q = broken (stands up_to2 (x ∷ s)) (bad_four (x ∷ s)) (first_break s) e in (record { three = q.0; four = q.1 }, q.2)
@@ -59,7 +58,7 @@ pub record Breaks (s : List ℕ) (k : ℕ) : Type 0 where
 
 -- THE INDEX IS THAT OF THE LAST BYTE OF THE FIRST WINDOW THAT BREAKS
 pub first_break_is : (s : List ℕ) (k : ℕ) → first_break s ≡ some k → Breaks s k
-first_break_is [] k e = absurd (none≢some e)
+first_break_is [] k e = cc
 first_break_is (x ∷ s) k e = go (stands up_to2 (x ∷ s)) refl (bad_four (x ∷ s)) refl (first_break s) refl (λ j q. first_break_is s j q) e
   where
     go : (a : Bool) → stands up_to2 (x ∷ s) ≡ a → (b : Bool) → bad_four (x ∷ s) ≡ b → (r : Option ℕ) → first_break s ≡ r
@@ -79,7 +78,7 @@ first_break_is (x ∷ s) k e = go (stands up_to2 (x ∷ s)) refl (bad_four (x �
           no_three = λ j h. absurd (not-suc-le-zero h);
           no_four = λ j h. absurd (not-suc-le-zero h);
         }
-    go false ea false eb none er ih e = absurd (none≢some e)
+    go false ea false eb none er ih e = cc
     go false ea false eb (some j) er ih e =
         let i = ih j er in
         let q : suc j ≡ k = some-injective (suc j) k e in
@@ -109,14 +108,14 @@ first_break_is (x ∷ s) k e = go (stands up_to2 (x ∷ s)) refl (bad_four (x �
 
 -- a break stays when more follows
 pub break_stays : (s t : List ℕ) (k : ℕ) → first_break s ≡ some k → first_break (s ++ t) ≡ some k
-break_stays [] t k e = absurd (none≢some e)
-break_stays (x ∷ []) t k e = absurd (none≢some e)
-break_stays (x ∷ y ∷ []) t k e = absurd (none≢some e)
+break_stays [] t k e = cc
+break_stays (x ∷ []) t k e = cc
+break_stays (x ∷ y ∷ []) t k e = cc
 break_stays (x ∷ y ∷ z ∷ []) t k e = go (stands up_to2 (x ∷ y ∷ z ∷ [])) refl e
   where
     go : (a : Bool) → stands up_to2 (x ∷ y ∷ z ∷ []) ≡ a → cond a (some 2) none ≡ some k → first_break (x ∷ y ∷ z ∷ t) ≡ some k
     go true ea e = rw ea e
-    go false ea e = absurd (none≢some e)
+    go false ea e = cc
 break_stays (x ∷ y ∷ z ∷ w ∷ s) t k e =
     go (stands up_to2 (x ∷ y ∷ z ∷ w ∷ s)) refl (bad_four (x ∷ y ∷ z ∷ w ∷ s)) refl (first_break (y ∷ z ∷ w ∷ s)) refl
     (λ j q. break_stays (y ∷ z ∷ w ∷ s) t j q) e
@@ -127,7 +126,7 @@ break_stays (x ∷ y ∷ z ∷ w ∷ s) t k e =
         → cond a (some 2) (cond b (some 3) (further r)) ≡ some k → first_break (x ∷ y ∷ z ∷ w ∷ s ++ t) ≡ some k
     go true ea b eb r er ih e = rw ea e
     go false ea true eb r er ih e = rw (ea, eb) e
-    go false ea false eb none er ih e = absurd (none≢some e)
+    go false ea false eb none er ih e = cc
     go false ea false eb (some j) er ih e = rw (ea, eb, ih j er) e
 
 -- the byte b is forbidden behind the bytes h, none of whose windows breaks
@@ -143,9 +142,9 @@ further_broken false n = refl
 
 -- behind 00 00 03, and behind three other bytes
 break_three : (x y z b : ℕ) → stands up_to2 (x ∷ y ∷ z ∷ []) ≡ false → first_break (x ∷ y ∷ z ∷ b ∷ []) ≡ broken_by (forbids (x ∷ y ∷ z ∷ []) b) 3
-break_three zero zero zero b e = absurd (false≢true (sym e))
-break_three zero zero (suc zero) b e = absurd (false≢true (sym e))
-break_three zero zero (suc (suc zero)) b e = absurd (false≢true (sym e))
+break_three zero zero zero b e = cc
+break_three zero zero (suc zero) b e = cc
+break_three zero zero (suc (suc zero)) b e = cc
 break_three zero zero (suc (suc (suc zero))) b e = refl
 break_three zero zero (suc (suc (suc (suc z)))) b e = refl
 break_three zero (suc y) zero b e = refl
@@ -212,6 +211,6 @@ forbidden_breaks zero h b n e =
       place_is = omega arith;
       breaks = break_more h b n ∙ ap (λ (c : Bool). broken_by c (length h)) (next_forbids h b none e);
     }
-forbidden_breaks (suc k) [] b n e = absurd (let z : ◌≡◌ {A = ℕ} 0 1 = cc in omega arith)
+forbidden_breaks (suc k) [] b n e = cc
 forbidden_breaks (suc k) (x ∷ h) b n e =
     let i = forbidden_breaks k h b n e in let q = i.place_is in record { place = i.place; place_is = omega arith; breaks = i.breaks }

@@ -58,7 +58,7 @@ escape_none (x ∷ s) e = ap (escape_at (x ∷ s) (escape_by (length s))) e
 
 pub escape_some : (s : List ℕ) (i : ℕ) → first up_to3 s ≡ some i → escape s ≡ take i s ++ 0 ∷ 0 ∷ 3 ∷ escape (drop 2 (drop i s))
 unfolding escape
-escape_some [] i e = absurd (let z : ◌≡◌ {A = ℕ} 0 1 = cc in omega arith)
+escape_some [] i e = cc
 escape_some (x ∷ s) i e =
     let q = stays up_to3 (x ∷ s) [] i e in
     let t = drop 2 (drop i (x ∷ s)) in
@@ -142,8 +142,8 @@ escape_trail =
     none_left : (b z : ℕ) → zeros_after z b ≡ 0 → (c : Bool) (y : ℕ) → cond c (zeros_after 0 b) (zeros_after y b) ≡ 0
     none_left (suc b) z e true y = refl
     none_left (suc b) z e false y = refl
-    none_left zero zero e c y = let x : ⊥ = omega arith in absurd x
-    none_left zero (suc z) e c y = let x : ⊥ = omega arith in absurd x
+    none_left zero zero e c y = absurd (omega arith)
+    none_left zero (suc z) e c y = absurd (omega arith)
 
 writes_more : (h : List ℕ) (b : ℕ) (o : Out ByteWriter) → write_step (writes h).state b ≡ some o → writes (h ++ b ∷ []) ≡ seen_after (writes h) o
 writes_more h b o q =

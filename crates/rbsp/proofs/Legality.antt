@@ -3,7 +3,7 @@ use Prim.Native.Nat.{ℕ, ◌+◌, ◌≤◌}
 use native.Mathlib.Nat.{le_of_lt}
 use native.Mathlib.Omega.{arith}
 use mathlib.Core.Path.{◌≡◌, refl, ap, sym, ◌∙◌}
-use mathlib.Core.Bool.{Bool, true, false, false≢true}
+use mathlib.Core.Bool.{Bool, true, false}
 use mathlib.Core.List.{List, [], ◌∷◌, ◌++◌, append-nil}
 use mathlib.Core.Option.{Option, none, some}
 use lib.ListN.{length, drop, length-append, drop_of_length-le}
@@ -56,7 +56,8 @@ forbidden_broken k h b t n q =
 pub unbroken_accepts : (k : ℕ) (h t : List ℕ) → first_break (drop k (h ++ t)) ≡ none → accepts read_step (reader_after k h) t ≡ true
 unbroken_accepts k h [] e = refl
 unbroken_accepts k h (b ∷ t) e =
-    go (read_step (reader_after k h) b) refl (unbroken_accepts k (h ++ b ∷ []) t (ap (λ (l : List ℕ). first_break (drop k l)) (append_snoc h b t) ∙ e))
+    go (read_step (reader_after k h) b) refl
+    (unbroken_accepts k (h ++ b ∷ []) t (ap (λ (l : List ℕ). first_break (drop k l)) (append_snoc h b t) ∙ e))
   where
     go : (r : Option (Out ParseState)) → read_step (reader_after k h) b ≡ r → accepts read_step (reader_after k (h ++ b ∷ [])) t ≡ true
         → accepts_by r (λ o. accepts read_step o.after t) ≡ true
@@ -71,7 +72,7 @@ accepts_unbroken k h (b ∷ t) n e = go (read_step (reader_after k h) b) refl e 
     go : (r : Option (Out ParseState)) → read_step (reader_after k h) b ≡ r → accepts_by r (λ o. accepts read_step o.after t) ≡ true
         → (first_break (drop k (h ++ b ∷ [])) ≡ none → accepts read_step (reader_after k (h ++ b ∷ [])) t ≡ true
         → first_break (drop k ((h ++ b ∷ []) ++ t)) ≡ none) → first_break (drop k (h ++ b ∷ t)) ≡ none
-    go none q a ih = absurd (false≢true a)
+    go none q a ih = cc
     go (some o) q a ih =
         ap (λ (l : List ℕ). first_break (drop k l)) (sym (append_snoc h b t))
         ∙ ih (taken_unbroken k h b o n q) (ap (λ (s : ParseState). accepts read_step s t) (state_more k h b o q) ∙ a)

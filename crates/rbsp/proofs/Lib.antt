@@ -4,12 +4,12 @@ pub mod Breaking
 pub mod Decoding
 pub mod Escaping
 pub mod Legality
+pub mod Mapping
 pub mod Pushing
 pub mod Reach
 pub mod Rooms
 pub mod Sheets
 pub mod Showing
-pub mod Stepping
 pub mod Traces
 pub mod Unescaping
 pub mod Unique

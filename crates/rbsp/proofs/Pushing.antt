@@ -1,62 +1,74 @@
--- The two pushes' loops, by what the code's steps say. The loop itself is desk's `Going`; no marks are lent.
-use Prim.Native.Nat.{ℕ, zero, suc, ◌+◌, ◌-◌, ◌≤◌, ◌<◌}
+-- The two pushes: what the entry checks refuse, and what the run gives. No marks are lent.
+use Prim.Native.Nat.{ℕ, zero, suc, ◌≤◌}
 use native.Mathlib.Omega.{arith}
-use mathlib.Core.Path.{◌≡◌, refl, ap, sym, ◌∙◌, subst}
-use mathlib.Core.Bool.{Bool, false}
-use mathlib.Core.List.{List, []}
-use mathlib.Core.Option.{Option, none, some, some-injective}
-use lib.ListN.{length, get_or, replicate, length-replicate}
-use borrow.Rule.Slice.PartMut.{mid_of, put_mid}
-use Rattle.desk.specs.Numbers.{entry_of}
-use Rattle.desk.specs.Push.{Out, Next, answers, run, push_of, Gives}
-use Rattle.desk.specs.Room.{with_front}
-use Rattle.desk.proofs.Pushing.{Going, going_more, stop_full, gives_refused, wrote, wrote_none, sofar}
-use Rattle.rbsp.specs.Step.{takes, read_step, step_out, stuffed_bytes}
+use mathlib.Core.Path.{◌≡◌, refl, ap, sym, subst}
+use mathlib.Core.Bool.{Bool, true, false, cond}
+use mathlib.Core.List.{List, [], ◌∷◌}
+use mathlib.Core.Option.{none, some, some-injective}
+use lib.ListN.{length}
+use Rattle.std.specs.Prelude.{Result, Ok, Err, IsOk}
+use Rattle.std.proofs.Common.{rules}
+use Rattle.desk.specs.Push.{Out, Next, Answer, answers, run, push_of, Gives}
+use Rattle.desk.specs.Refusing.{number_of}
+use Rattle.desk.specs.Steps.{Runs}
+use Rattle.desk.specs.declared.push.Pushed.{Pushed}
+use Rattle.desk.specs.declared.refusal.Refusal.{Refusal}
+use Rattle.desk.specs.declared.refusal.Refusal.TheVariants.{ForbiddenByte}
+use Rattle.desk.proofs.Entering.{entry_few}
+use Rattle.desk.proofs.Pushing.{push_runs}
+use Rattle.desk.proofs.Refusing.{number_some}
+use Rattle.desk.proofs.Running.{gave_refused, always_done}
+use Rattle.rbsp.specs.Step.{read_step, read_entry, bad_reader, write_step, write_entry, stuffs}
+use Rattle.rbsp.specs.Answer.{ReadPush, read_number, WritePush}
 use Rattle.rbsp.specs.declared.reader.ParseState.{ParseState}
 use Rattle.rbsp.specs.declared.reader.ParseState.TheVariants.{Start, Skip, PostThree}
-use Rattle.rbsp.specs.declared.reader.Stepped.{Stepped}
-use Rattle.rbsp.specs.declared.reader.Stepped.TheVariants.{Take, Forbidden}
+use Rattle.rbsp.specs.declared.reader.Stopped.{Stopped}
+use Rattle.rbsp.specs.declared.reader.Stopped.TheVariants.{Refused, Forbidden}
+use Rattle.rbsp.specs.declared.writer.ByteWriter.{ByteWriter}
+use Rattle.rbsp.proofs.Mapping.{err_mapped}
 
--- a refusal of the entry checks, by the number that the code found
-pub refused : {S : Type 0} (nx : Next S) (n entry : ℕ) (s : S) (chunk out : List ℕ) → n ≡ entry → (n ≡ 0 → ⊥)
-    → Gives (push_of nx entry s chunk (length out) 0) out [] out [] n 0 0 0 s
-refused nx n entry s chunk out e h =
-    subst (λ (k : ℕ). Gives (push_of nx entry s chunk (length out) 0) out [] out [] k 0 0 0 s) (sym e)
-    (gives_refused nx entry s chunk out [] (λ z. h (e ∙ z)))
+-- a run behind entry checks that passed, with a room of marks that is not there
+ran : {S : Type 0} (next : Next S) (entry : ℕ) (s s' : S) (chunk out out' marks' : List ℕ) (number taken wrote marked : ℕ) → 0 ≡ entry
+    → length marks' ≡ 0
+    → Gives (run next (length out) 0 (answers 0 s) chunk) out [] out' marks' number taken wrote marked s'
+    → Gives (push_of next entry s chunk (length out) 0) out [] out' [] number taken wrote marked s'
+ran next entry s s' chunk out out' [] number taken wrote marked z l g =
+    subst (λ (a : Answer _). Gives a out [] out' [] number taken wrote marked s') (sym (push_runs next entry s chunk (length out) 0 (sym z))) g
+ran next entry s s' chunk out out' (x ∷ marks') number taken wrote marked z l g = absurd (omega arith)
 
-pub entry_is : (n : ℕ) (bad bad' : Bool) (ns : List ℕ) → n ≡ entry_of ns bad → bad ≡ bad' → n ≡ entry_of ns bad'
-entry_is n bad bad' ns p q = p ∙ ap (entry_of ns) q
+module _ (s : ParseState) (chunk out : List ℕ) where
+  abbrev entered : ℕ
+  entered = read_entry s (length chunk) (length out) 0
 
--- one byte of a push that releases the bytes bs of the code's step, without marks
-module _ {S : Type 0} {nx : Next S} {chunk out₀ : List ℕ} {s₀ : S} {out : List ℕ} {s : S} {t w : ℕ} (g : Going nx chunk out₀ [] s₀ out [] s t w 0)
-    {b : ℕ} (h : t < length chunk) (e : b ≡ get_or chunk t 0) (after : S) (bs : List ℕ)
-    (q : nx s b ≡ some (record { after = after; bytes = bs; mark = false }))
-    (n : ℕ)
-    (en : length bs ≡ n)
-  where
-    pub more : (part : List ℕ) → n ≤ length out - w → part ≡ with_front (mid_of w (length out - w) out) bs
-        → Going nx chunk out₀ [] s₀ (put_mid w (length out - w) out part) [] after (t + 1) (w + n) 0
-    more part f ep =
-        going_more g h e (record { after = after; bytes = bs; mark = false }) q n 0 en refl (wrote w n bs out part g.out_few f en ep) wrote_none
+  pub read_refused : (e : Refusal) → number_of e ≡ entered → ReadPush s s chunk out out (Err (Refused e))
+  read_refused e q =
+      record {
+        gives = gave_refused read_step s chunk out [] entered e q;
+        delivers = λ z.
+            let same : e ≡ ForbiddenByte = cc in
+            let seven : number_of e ≡ 7 = ap number_of same in
+            let few = entry_few (length chunk ∷ length out ∷ 0 ∷ []) (bad_reader s) in
+            omega arith;
+      }
 
-    pub full : length out - w < n → run nx (length out₀) 0 (answers 0 s₀) chunk ≡ sofar out [] s t w 0
-    full f = stop_full g h e (record { after = after; bytes = bs; mark = false }) q n 0 en refl f
+  -- the run's answer, with `Forbidden` where it met one
+  pub read_ran : 0 ≡ entered → (s' : ParseState) (out' marks' : List ℕ) → length marks' ≡ 0 → (r : Result Pushed Pushed) (r' : Result Pushed Stopped)
+      → Runs read_step s chunk out [] s' out' marks' r → r' ≡ err_mapped Forbidden r → ReadPush s s' chunk out out' r'
+  read_ran z s' out' marks' l (Ok p) r' g t =
+      rw t (record { gives = ran read_step entered s s' chunk out out' marks' _ _ _ _ z l g; delivers = λ q. cc })
+  read_ran z s' out' marks' l (Err p) r' g t =
+      rw t (record { gives = ran read_step entered s s' chunk out out' marks' _ _ _ _ z l g; delivers = λ q. cc })
 
--- the reader's step took the byte, or forbids it
-pub took_is : (r : Stepped) (s : ParseState) (b : ℕ) (after : ParseState) (n : ℕ) → step_out r b ≡ read_step s b → r ≡ Take after n
-    → read_step s b ≡ some (takes after (replicate n b))
-took_is r s b after n e q = sym e ∙ ap (λ (x : Stepped). step_out x b) q
-
-pub forbids_is : (r : Stepped) (s : ParseState) (b : ℕ) → step_out r b ≡ read_step s b → r ≡ Forbidden → read_step s b ≡ none
-forbids_is r s b e q = sym e ∙ ap (λ (x : Stepped). step_out x b) q
+-- a push with number 0 is well
+pub ok_of : (r : Result Pushed Stopped) → read_number r ≡ 0 → IsOk r
+ok_of (Ok p) z = search rules
+ok_of (Err (Refused e)) z = let h = number_some e in absurd (omega arith)
+ok_of (Err (Forbidden p)) z = absurd (omega arith)
 
 -- a byte is delivered or not, and ends nothing
 pub record Short (o : Out ParseState) : Type 0 where
   pub one : length o.bytes ≤ 1
   pub no_mark : o.mark ≡ false
-
-absurd_none : {o : Out ParseState} → ◌≡◌ {A = Option (Out ParseState)} none (some o) → ⊥
-absurd_none {o} e = let z : ◌≡◌ {A = ℕ} 0 1 = cc in omega arith
 
 short_is : {o o' : Out ParseState} → some o ≡ some o' → Short o → Short o'
 short_is {o} {o'} e h = subst Short (some-injective o o' e) h
@@ -64,9 +76,9 @@ short_is {o} {o'} e h = subst Short (some-injective o o' e) h
 scan_short : (z b : ℕ) (o : Out ParseState) → read_step (Start z) b ≡ some o → Short o
 scan_short zero b o e = short_is e (record { one = omega arith; no_mark = refl })
 scan_short (suc zero) b o e = short_is e (record { one = omega arith; no_mark = refl })
-scan_short (suc (suc z)) zero o e = absurd (absurd_none e)
-scan_short (suc (suc z)) (suc zero) o e = absurd (absurd_none e)
-scan_short (suc (suc z)) (suc (suc zero)) o e = absurd (absurd_none e)
+scan_short (suc (suc z)) zero o e = cc
+scan_short (suc (suc z)) (suc zero) o e = cc
+scan_short (suc (suc z)) (suc (suc zero)) o e = cc
 scan_short (suc (suc z)) (suc (suc (suc zero))) o e = short_is e (record { one = omega arith; no_mark = refl })
 scan_short (suc (suc z)) (suc (suc (suc (suc b)))) o e = short_is e (record { one = omega arith; no_mark = refl })
 
@@ -78,14 +90,27 @@ next_short PostThree zero o e = short_is e (record { one = omega arith; no_mark 
 next_short PostThree (suc zero) o e = short_is e (record { one = omega arith; no_mark = refl })
 next_short PostThree (suc (suc zero)) o e = short_is e (record { one = omega arith; no_mark = refl })
 next_short PostThree (suc (suc (suc zero))) o e = short_is e (record { one = omega arith; no_mark = refl })
-next_short PostThree (suc (suc (suc (suc b)))) o e = absurd (absurd_none e)
+next_short PostThree (suc (suc (suc (suc b)))) o e = cc
 
-pub next_one : (s : ParseState) (b n : ℕ) (s' : ParseState) → read_step s b ≡ some (takes s' (replicate n b)) → n ≤ 1
-next_one s b n s' e = subst (λ (k : ℕ). k ≤ 1) (length-replicate n b) (next_short s b (takes s' (replicate n b)) e).one
+-- no byte is forbidden on writing
+pub never_forbidden : (s : ByteWriter) (b : ℕ) → write_step s b ≡ none → ⊥
+never_forbidden s b = go (stuffs s.zero_count b) _ _
+  where
+    go : (c : Bool) (x y : Out ByteWriter) → cond c (some x) (some y) ≡ none → ⊥
+    go true x y e = cc
+    go false x y e = cc
 
--- the writer's byte goes out alone or behind a 03
-pub released_length : (n b : ℕ) → n ≤ 2 → length (stuffed_bytes n b) ≡ n
-released_length zero b h = refl
-released_length (suc zero) b h = refl
-released_length (suc (suc zero)) b h = refl
-released_length (suc (suc (suc n))) b h = let z : ⊥ = omega arith in absurd z
+module _ (s : ByteWriter) (chunk out : List ℕ) where
+  abbrev written : ℕ
+  written = write_entry s (length chunk) (length out) 0
+
+  pub write_refused : (e : Refusal) → number_of e ≡ written → WritePush s s chunk out out (Err e)
+  write_refused e q = gave_refused write_step s chunk out [] written e q
+
+  module _ (s' : ByteWriter) (out' marks' : List ℕ) where
+    pub write_ran : 0 ≡ written → length marks' ≡ 0 → (p : Pushed) → Runs write_step s chunk out [] s' out' marks' (Ok p)
+        → WritePush s s' chunk out out' (Ok p)
+    write_ran z l p g = ran write_step written s s' chunk out out' marks' _ _ _ _ z l g
+
+    pub write_done : (r : Result Pushed Pushed) → Runs write_step s chunk out [] s' out' marks' r → IsOk r
+    write_done r g = always_done write_step s chunk out [] never_forbidden s' out' marks' r g

@@ -10,8 +10,13 @@ use mathlib.Core.Option.{Option, none, some, some-injective}
 use lib.Dec.{ltb}
 use lib.ListN.{length, drop}
 use borrow.Author.Tests.{le-ltb}
+use Rattle.std.specs.Prelude.{Result}
 use Rattle.desk.specs.Push.{Out, marked, accepts_by, accepts}
+use Rattle.desk.specs.Refusing.{answered}
 use Rattle.desk.specs.Search.{trail}
+use Rattle.desk.specs.Steps.{pushed_of}
+use Rattle.desk.specs.declared.refusal.Refusal.{Refusal}
+use Rattle.desk.specs.declared.push.Pushed.{Pushed}
 use Rattle.desk.proofs.Entering.{entry_done}
 use Rattle.desk.proofs.Accepting.{enough_room}
 use Rattle.desk.proofs.Choice.{cond_ind}
@@ -19,19 +24,18 @@ use Rattle.desk.proofs.Lists.{trail_few}
 use Rattle.desk.proofs.Taking.{never_7, takes_one}
 use Rattle.desk.proofs.Ways.{way}
 use Rattle.rbsp.specs.Rule.{escape, Legal, ends_three}
-use Rattle.rbsp.specs.Answer.{ReadPush, WritePush, new_byte_writer}
+use Rattle.rbsp.specs.Answer.{ReadPush, read_number, read_counts, WritePush, new_byte_writer}
 use Rattle.rbsp.specs.Promise.{ReadWay, WriteWay}
 use Rattle.rbsp.specs.Step.{takes, read_step, skipping, bad_reader, read_entry, reader_after}
 use Rattle.rbsp.specs.Step.{stuffs, behind_three, goes_alone, write_step, write_entry, writes}
 use Rattle.rbsp.specs.declared.reader.ParseState.{ParseState}
 use Rattle.rbsp.specs.declared.reader.ParseState.TheVariants.{Start, PostThree}
-use Rattle.rbsp.specs.declared.reader.Pushed.{Pushed}
+use Rattle.rbsp.specs.declared.reader.Stopped.{Stopped}
 use Rattle.rbsp.specs.declared.writer.ByteWriter.{ByteWriter}
-use Rattle.rbsp.specs.declared.writer.Written.{Written}
 use Rattle.rbsp.proofs.Breaking.{legal_none}
 use Rattle.rbsp.proofs.Escaping.{write_follows}
 use Rattle.rbsp.proofs.Legality.{legal_accepts}
-use Rattle.rbsp.proofs.Pushing.{next_short}
+use Rattle.rbsp.proofs.Pushing.{next_short, never_forbidden}
 use Rattle.rbsp.proofs.Unescaping.{reader_new, read_follows}
 
 -- ---- no run leaves a bad state
@@ -63,44 +67,37 @@ out_few s b o = go (stuffs s.zero_count b)
     go true e = subst Few (some-injective _ o e) (omega arith, le_refl 0)
     go false e = subst Few (some-injective _ o e) (omega arith, le_refl 0)
 
-never_forbidden : (s : ByteWriter) (b : ℕ) → write_step s b ≡ none → ⊥
-never_forbidden s b = go (stuffs s.zero_count b) _ _
-  where
-    go : (c : Bool) (x y : Out ByteWriter) → cond c (some x) (some y) ≡ none → ⊥
-    go true x y e = let z : ◌≡◌ {A = ℕ} 0 1 = cc in omega arith
-    go false x y e = let z : ◌≡◌ {A = ℕ} 0 1 = cc in omega arith
-
 -- A PUSH OF THE WRITER answers 0, 1 or 2, by its entry checks alone
-pub write_number : (s : ByteWriter) (chunk out out' : List ℕ) (r : Written) → WritePush s chunk out out' r
-    → r.number ≡ write_entry s (length chunk) (length out) 0
-write_number s chunk out out' r o =
+pub write_number : (s s' : ByteWriter) (chunk out out' : List ℕ) (r : Result Pushed Refusal) → WritePush s s' chunk out out' r
+    → answered r ≡ write_entry s (length chunk) (length out) 0
+write_number s s' chunk out out' r o =
     o.number_is ∙ never_7 write_step never_forbidden (write_entry s (length chunk) (length out) 0) s chunk (length out) 0
 
 -- ROOM 1 TAKES A BYTE of what is lent, wherever the answer is 0
-pub read_one : (s : ParseState) (b : ℕ) (bs out out' : List ℕ) (r : Pushed) → ReadPush s (b ∷ bs) out out' r → r.number ≡ 0 → 1 ≤ length out
-    → 1 ≤ r.taken
-read_one s b bs out out' r o z h =
+pub read_one : (s s' : ParseState) (b : ℕ) (bs out out' : List ℕ) (r : Result Pushed Stopped) → ReadPush s s' (b ∷ bs) out out' r
+    → read_number r ≡ 0 → 1 ≤ length out → 1 ≤ (read_counts r).taken
+read_one s s' b bs out out' r o z h =
     let n =
     takes_one read_step s b bs (read_entry s (length (b ∷ bs)) (length out) 0) (length out) 0
-    (λ x e. let f = next_few s b x e in let k = f.0 in (omega arith, f.1)) (sym o.number_is ∙ z) in
-    omega (arith, o.taken_is)
+    (λ x e. let f = next_few s b x e in let k = f.0 in (omega arith, f.1)) (sym o.gives.number_is ∙ z) in
+    omega (arith, o.gives.taken_is)
 
 -- and no room is wanted where the byte is removed or skipped
-pub read_nothing : (s s' : ParseState) (b : ℕ) (bs out out' : List ℕ) (r : Pushed) → ReadPush s (b ∷ bs) out out' r → r.number ≡ 0
-    → read_step s b ≡ some (takes s' []) → 1 ≤ r.taken
-read_nothing s s' b bs out out' r o z e =
-    let n = takes_one read_step s b bs (read_entry s (length (b ∷ bs)) (length out) 0) (length out) 0 released_none (sym o.number_is ∙ z) in
-    omega (arith, o.taken_is)
+pub read_nothing : (s s₁ s' : ParseState) (b : ℕ) (bs out out' : List ℕ) (r : Result Pushed Stopped) → ReadPush s s' (b ∷ bs) out out' r
+    → read_number r ≡ 0 → read_step s b ≡ some (takes s₁ []) → 1 ≤ (read_counts r).taken
+read_nothing s s₁ s' b bs out out' r o z e =
+    let n = takes_one read_step s b bs (read_entry s (length (b ∷ bs)) (length out) 0) (length out) 0 released_none (sym o.gives.number_is ∙ z) in
+    omega (arith, o.gives.taken_is)
   where
     released_none : (x : Out ParseState) → read_step s b ≡ some x → (length x.bytes ≤ length out) × (length (marked x.mark []) ≤ 0)
     released_none x q =
         subst (λ (y : Out ParseState). (length y.bytes ≤ length out) × (length (marked y.mark []) ≤ 0))
-        (some-injective (takes s' []) x (sym e ∙ q)) (zero-le, zero-le)
+        (some-injective (takes s₁ []) x (sym e ∙ q)) (zero-le, zero-le)
 
 -- ROOM 2 TAKES A BYTE on writing
-pub write_one : (s : ByteWriter) (b : ℕ) (bs out out' : List ℕ) (r : Written) → WritePush s (b ∷ bs) out out' r → r.number ≡ 0 → 2 ≤ length out
-    → 1 ≤ r.taken
-write_one s b bs out out' r o z h =
+pub write_one : (s s' : ByteWriter) (b : ℕ) (bs out out' : List ℕ) (r : Result Pushed Refusal) → WritePush s s' (b ∷ bs) out out' r
+    → answered r ≡ 0 → 2 ≤ length out → 1 ≤ (pushed_of r).taken
+write_one s s' b bs out out' r o z h =
     let n =
     takes_one write_step s b bs (write_entry s (length (b ∷ bs)) (length out) 0) (length out) 0
     (λ x e. let f = out_few s b x e in let k = f.0 in (omega arith, f.1)) (sym o.number_is ∙ z) in
@@ -112,18 +109,18 @@ none_wanted : (chunk : List ℕ) → 0 * length chunk ≤ 0
 none_wanted chunk = omega (arith, zero-mul (length chunk))
 
 -- AS MUCH ROOM AS BYTES, on reading: where the answer is 0 all is taken
-pub read_everything : (k : ℕ) (h chunk out out' : List ℕ) (r : Pushed) → ReadPush (reader_after k h) chunk out out' r → r.number ≡ 0
-    → length chunk ≤ length out → r.taken ≡ length chunk
-read_everything k h chunk out out' r o z f =
-    o.taken_is
+pub read_everything : (k : ℕ) (h : List ℕ) (s' : ParseState) (chunk out out' : List ℕ) (r : Result Pushed Stopped)
+    → ReadPush (reader_after k h) s' chunk out out' r → read_number r ≡ 0 → length chunk ≤ length out → (read_counts r).taken ≡ length chunk
+read_everything k h s' chunk out out' r o z f =
+    o.gives.taken_is
     ∙ enough_room (read_follows k) 1 0 next_few h chunk (read_entry (reader_after k h) (length chunk) (length out) 0) (length out) 0 (omega arith)
     (none_wanted chunk)
-    (sym o.number_is ∙ z)
+    (sym o.gives.number_is ∙ z)
 
 -- TWICE AS MUCH ROOM AS BYTES, on writing
-pub write_everything : (h chunk out out' : List ℕ) (r : Written) → WritePush (writes h).state chunk out out' r → r.number ≡ 0
-    → 2 * length chunk ≤ length out → r.taken ≡ length chunk
-write_everything h chunk out out' r o z f =
+pub write_everything : (h : List ℕ) (s' : ByteWriter) (chunk out out' : List ℕ) (r : Result Pushed Refusal)
+    → WritePush (writes h).state s' chunk out out' r → answered r ≡ 0 → 2 * length chunk ≤ length out → (pushed_of r).taken ≡ length chunk
+write_everything h s' chunk out out' r o z f =
     o.taken_is
     ∙ enough_room write_follows 2 0 out_few h chunk (write_entry (writes h).state (length chunk) (length out) 0) (length out) 0 f (none_wanted chunk)
     (sym o.number_is ∙ z)

@@ -7,10 +7,12 @@ use mathlib.Core.List.{List, [], ◌∷◌, ◌++◌}
 use mathlib.Core.Option.{none}
 use lib.ListN.{length, take, drop, get_or, length-take, length-drop}
 use lib.Seq.{get_or-take, get_or-drop, split_at, length-take-le, take-length, drop-cons}
+use Rattle.std.specs.Prelude.{Result}
 use Rattle.desk.specs.Numbers.{most}
 use Rattle.desk.specs.Push.{Answer, answers, Seen, push_of, push_by, PushesOn, shifted, accepts}
 use Rattle.desk.specs.Push.Pushes.{one_more}
 use Rattle.desk.specs.Search.{trail}
+use Rattle.desk.specs.declared.push.Pushed.{Pushed}
 use Rattle.desk.proofs.Cutting.{pushes_cut}
 use Rattle.desk.proofs.Entering.{entry_done, entry_few}
 use Rattle.desk.proofs.Search.{none≢some}
@@ -22,7 +24,7 @@ use Rattle.rbsp.specs.Step.{read_step, skipping, bad_reader, read_entry, reader_
 use Rattle.rbsp.specs.Promise.{ReadTrace, WriteTrace, Reading, Seventh, Writing}
 use Rattle.rbsp.specs.Answer.{ReadGave, ReadPush}
 use Rattle.rbsp.specs.declared.reader.ParseState.{ParseState}
-use Rattle.rbsp.specs.declared.reader.Pushed.{Pushed}
+use Rattle.rbsp.specs.declared.reader.Stopped.{Stopped}
 use Rattle.rbsp.specs.declared.writer.ByteWriter.{ByteWriter}
 use Rattle.rbsp.proofs.Back.{unescape_escape, escape_legal}
 use Rattle.rbsp.proofs.Breaking.{none_legal, legal_none}
@@ -48,10 +50,13 @@ reading skip {stream} {n} {s} {given} {ends} p =
       bytes = sym (ap (λ (v : Seen ParseState). v.bytes) c.rule_gives);
       state = sym (ap (λ (v : Seen ParseState). v.state) c.rule_gives);
       legal = none_legal (drop skip (take n stream)) (unbroken_so_far skip p);
-      at_once = λ out out' r o nf rf hold.
-          at_once (read_follows skip) (subst (ReadTrace skip stream n s given) unmarked p) out [] out' [] r.number r.taken r.written 0
-          r.state.state o
-          (entry_done (n ∷ length out ∷ 0 ∷ []) (bad_reader (skipping skip)) (nf, (rf, (zero-le, tt))) (new_good skip)) hold zero-le;
+      at_once = λ s' out out' r o nf rf hold.
+          record {
+            gives =
+                at_once (read_follows skip) (subst (ReadTrace skip stream n s given) unmarked p) out [] out' [] _ _ _ _ s' o.gives
+                (entry_done (n ∷ length out ∷ 0 ∷ []) (bad_reader (skipping skip)) (nf, (rf, (zero-le, tt))) (new_good skip)) hold zero-le;
+            delivers = o.delivers;
+          };
     }
 
 -- the byte behind n + t bytes of the stream
@@ -64,10 +69,10 @@ entered s chunk w m zero h z = refl
 entered s chunk w m (suc e) h z =
     let q : suc e ≡ 7 =
     sym (ap (λ (a : Answer ParseState). a.number) (push_refused read_step (suc e) s chunk w m (λ f. let x : ⊥ = omega arith in x))) ∙ z in
-    let x : ⊥ = omega arith in absurd x
+    absurd (omega arith)
 
 -- a push that answers 7 stopped before a byte that is forbidden in the state it left
-record Stopped (stream : List ℕ) (at : ℕ) (s' : ParseState) : Type 0 where
+record StopsAt (stream : List ℕ) (at : ℕ) (s' : ParseState) : Type 0 where
   inside : at < length stream
   stops : read_step s' (get_or stream at 0) ≡ none
 
@@ -79,7 +84,7 @@ module _ (skip : ℕ) {stream : List ℕ} {n : ℕ} {s : ParseState} {given ends
     (o : PushesOn read_step read_entry stream n s k out marks out' marks' number taken wrote marked_n s')
     (z : number ≡ 7)
   where
-    stopped : Stopped stream (n + taken) s'
+    stopped : StopsAt stream (n + taken) s'
     stopped =
         let h = take n stream in
         let chunk = take k (drop n stream) in
@@ -95,7 +100,8 @@ module _ (skip : ℕ) {stream : List ℕ} {n : ℕ} {s : ParseState} {given ends
         (push_longest (read_follows skip) h chunk w m).number_7 (sym (ap (λ (x : Answer ParseState). x.number) same) ∙ sym o.number_is ∙ z) in
         let here : taken < length chunk = omega (arith, seven.0) in
         let left : s' ≡ a.after = o.state_is ∙ ap (λ (x : Answer ParseState). x.after) same in
-        let byte : get_or stream (n + taken) 0 ≡ get_or chunk a.taken 0 = sym (next_byte stream n k taken here) ∙ ap (λ (x : ℕ). get_or chunk x 0) t in
+        let byte : get_or stream (n + taken) 0 ≡ get_or chunk a.taken 0 =
+        sym (next_byte stream n k taken here) ∙ ap (λ (x : ℕ). get_or chunk x 0) t in
         record {
           inside = omega (arith, length-take k (drop n stream), length-drop n stream);
           stops = ap₂ read_step left byte ∙ seven.1;
@@ -120,9 +126,10 @@ module _ (skip : ℕ) {stream : List ℕ} {n : ℕ} {s : ParseState} {given ends
         }
 
     -- THAT BYTE AGAIN ANSWERS 7, with nothing taken and nothing written, whatever room is lent
-    pub seventh_again : (k₂ : ℕ) (out₂ out₂' : List ℕ) (r : Pushed) → ReadPush s' (take (suc k₂) (drop (n + taken) stream)) out₂ out₂' r
-        → suc k₂ ≤ most → length out₂ ≤ most → ReadGave (answers 7 s') out₂ out₂' r
-    seventh_again k₂ out₂ out₂' r o₂ kf rf =
+    pub seventh_again : (k₂ : ℕ) (s₂ : ParseState) (out₂ out₂' : List ℕ) (r : Result Pushed Stopped)
+        → ReadPush s' s₂ (take (suc k₂) (drop (n + taken) stream)) out₂ out₂' r → suc k₂ ≤ most → length out₂ ≤ most
+        → ReadGave (answers 7 s') out₂ out₂' s₂ r
+    seventh_again k₂ s₂ out₂ out₂' r o₂ kf rf =
         let rest = drop (n + taken) stream in
         let chunk : take (suc k₂) rest ≡ get_or stream (n + taken) 0 ∷ take k₂ (drop (suc (n + taken)) stream) =
         ap (take (suc k₂)) (drop-cons stream (n + taken) 0 stopped.inside) in
@@ -130,7 +137,7 @@ module _ (skip : ℕ) {stream : List ℕ} {n : ℕ} {s : ParseState} {given ends
         let enters : read_entry s' (length (take (suc k₂) rest)) (length out₂) 0 ≡ 0 =
         entry_done (length (take (suc k₂) rest) ∷ length out₂ ∷ 0 ∷ []) (bad_reader s')
         (omega (arith, length-take (suc k₂) rest), (rf, (zero-le, tt))) good in
-        subst (λ (a : Answer ParseState). ReadGave a out₂ out₂' r)
+        subst (λ (a : Answer ParseState). ReadGave a out₂ out₂' s₂ r)
         (ap₂ (λ (x : ℕ) (l : List ℕ). push_of read_step x s' l (length out₂) 0) enters chunk
         ∙ stops_first read_step s' (get_or stream (n + taken) 0) (take k₂ (drop (suc (n + taken)) stream)) (length out₂) 0 stopped.stops)
         o₂
@@ -161,7 +168,7 @@ writing {stream} {n} {s} {given} {ends} p =
       state = sym (ap (λ (v : Seen ByteWriter). v.state) c.rule_gives) ∙ ap (λ (l : List ℕ). zeros (trail l)) (sym e);
       legal = subst Legal (sym e) (escape_legal (take n stream));
       back = ap unescape e ∙ unescape_escape (take n stream);
-      at_once = λ out out' r o nf rf hold.
-          at_once write_follows (subst (WriteTrace stream n s given) unmarked p) out [] out' [] r.number r.taken r.written 0 r.state o
+      at_once = λ s' out out' r o nf rf hold.
+          at_once write_follows (subst (WriteTrace stream n s given) unmarked p) out [] out' [] _ _ _ _ s' o
           (entry_done (n ∷ length out ∷ 0 ∷ []) false (nf, (rf, (zero-le, tt))) refl) hold zero-le;
     }

@@ -3,7 +3,7 @@ use Prim.Native.Nat.{ℕ, zero, suc, ◌≤◌}
 use native.Mathlib.Nat.{not-suc-le-zero}
 use native.Mathlib.Omega.{arith}
 use mathlib.Core.Path.{◌≡◌, refl, ap, ap₂, sym, ◌∙◌}
-use mathlib.Core.Bool.{Bool, true, false, cond, ◌&&◌, false≢true}
+use mathlib.Core.Bool.{Bool, true, false, cond, ◌&&◌}
 use mathlib.Core.List.{List, [], ◌∷◌, ◌++◌, append-nil}
 use mathlib.Core.Option.{Option, none, some, some-injective}
 use lib.ListN.{length, take, drop}
@@ -55,7 +55,7 @@ unescape_none (x ∷ s) e = ap (unescape_at (x ∷ s) (unescape_by (length s))) 
 
 pub unescape_some : (s : List ℕ) (i : ℕ) → first is3 s ≡ some i → unescape s ≡ take i s ++ 0 ∷ 0 ∷ unescape (drop 3 (drop i s))
 unfolding unescape
-unescape_some [] i e = absurd (let z : ◌≡◌ {A = ℕ} 0 1 = cc in omega arith)
+unescape_some [] i e = cc
 unescape_some (x ∷ s) i e =
     let q = stays is3 (x ∷ s) [] i e in
     let t = drop 3 (drop i (x ∷ s)) in
@@ -86,7 +86,7 @@ abbrev pub kept : ℕ → ℕ → List ℕ
 kept z b = cond (two z && is3 b) [] (b ∷ [])
 
 is3_not_0 : (z : ℕ) → is3 z ≡ true → is0 z ≡ false
-is3_not_0 zero e = absurd (false≢true e)
+is3_not_0 zero e = cc
 is3_not_0 (suc z) e = refl
 
 table_more : (h : List ℕ) (b : ℕ) → table (h ++ b ∷ []) ≡ table h ++ kept (trail h) b
@@ -125,9 +125,9 @@ ends_three_more (x ∷ y ∷ z ∷ w ∷ s) b = ends_three_more (y ∷ z ∷ w �
 
 -- a removed 03 is no zero
 pub ends_three_trail : (h : List ℕ) → ends_three h ≡ true → trail h ≡ 0
-ends_three_trail [] e = absurd (false≢true e)
-ends_three_trail (x ∷ []) e = absurd (false≢true e)
-ends_three_trail (x ∷ y ∷ []) e = absurd (false≢true e)
+ends_three_trail [] e = cc
+ends_three_trail (x ∷ []) e = cc
+ends_three_trail (x ∷ y ∷ []) e = cc
 ends_three_trail (x ∷ y ∷ z ∷ []) e = trail_past y z [] (is3_not_0 z (and_right (is0 y) (is3 z) (and_right (is0 x) (is0 y && is3 z) e)))
 ends_three_trail (x ∷ y ∷ z ∷ w ∷ s) e = ends_three_trail (y ∷ z ∷ w ∷ s) e
 
@@ -137,21 +137,18 @@ ends_three_trail (x ∷ y ∷ z ∷ w ∷ s) e = ends_three_trail (y ∷ z ∷ w
 abbrev steps_to : ℕ → ℕ → Out ParseState
 steps_to z b = takes (cond (two z && is3 b) PostThree (Start (zeros_after z b))) (kept z b)
 
-none≢some : {o : Out ParseState} → ◌≡◌ {A = Option (Out ParseState)} none (some o) → ⊥
-none≢some {o} e = let z : ◌≡◌ {A = ℕ} 0 1 = cc in omega arith
-
 step_is : (e : Bool) (z b : ℕ) (o : Out ParseState) → (e ≡ true → z ≡ 0) → read_step (cond e PostThree (Start z)) b ≡ some o → steps_to z b ≡ o
-step_is true (suc z) b o h q = let n : suc z ≡ 0 = h refl in let x : ⊥ = omega arith in absurd x
+step_is true (suc z) b o h q = let n : suc z ≡ 0 = h refl in absurd (omega arith)
 step_is true zero zero o h q = some-injective _ o q
 step_is true zero (suc zero) o h q = some-injective _ o q
 step_is true zero (suc (suc zero)) o h q = some-injective _ o q
 step_is true zero (suc (suc (suc zero))) o h q = some-injective _ o q
-step_is true zero (suc (suc (suc (suc b)))) o h q = absurd (none≢some q)
+step_is true zero (suc (suc (suc (suc b)))) o h q = cc
 step_is false zero b o h q = some-injective _ o q
 step_is false (suc zero) b o h q = some-injective _ o q
-step_is false (suc (suc z)) zero o h q = absurd (none≢some q)
-step_is false (suc (suc z)) (suc zero) o h q = absurd (none≢some q)
-step_is false (suc (suc z)) (suc (suc zero)) o h q = absurd (none≢some q)
+step_is false (suc (suc z)) zero o h q = cc
+step_is false (suc (suc z)) (suc zero) o h q = cc
+step_is false (suc (suc z)) (suc (suc zero)) o h q = cc
 step_is false (suc (suc z)) (suc (suc (suc zero))) o h q = some-injective _ o q
 step_is false (suc (suc z)) (suc (suc (suc (suc b)))) o h q = some-injective _ o q
 

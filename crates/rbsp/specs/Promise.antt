@@ -1,17 +1,19 @@
 -- WHAT IS PROMISED OF READING AND WRITING, over any trace of pushes that each meet their contract.
-use Rattle.std.specs.Prelude.{ℕ, ◌+◌, ◌≤◌, ◌≡◌, List, [], ◌⊎◌, length, take, drop}
+use Rattle.std.specs.Prelude.{ℕ, ◌+◌, ◌≤◌, ◌≡◌, List, [], ◌⊎◌, length, take, drop, Result}
 use Rattle.std.proofs.Math.Option.{some}
 use Rattle.desk.specs.Numbers.{most}
 use Rattle.desk.specs.Push.{Pushes, came_to, Way}
 use Rattle.desk.specs.Search.{trail}
+use Rattle.desk.specs.declared.refusal.Refusal.{Refusal}
+use Rattle.desk.specs.declared.push.Pushed.{Pushed}
 use Rattle.rbsp.specs.Rule.{escape, unescape, Legal, first_break}
 use Rattle.rbsp.specs.Step.{read_step, skipping, read_entry, reader_after, write_step, write_entry, zeros}
 use Rattle.rbsp.specs.Answer.{ReadGave, ReadPush, WriteGave, WritePush, new_byte_writer, Decodes}
 use Rattle.rbsp.specs.declared.nal.Decoded.{Decoded}
+use Rattle.rbsp.specs.declared.nal.Undecoded.{Undecoded}
 use Rattle.rbsp.specs.declared.reader.ParseState.{ParseState}
-use Rattle.rbsp.specs.declared.reader.Pushed.{Pushed}
+use Rattle.rbsp.specs.declared.reader.Stopped.{Stopped}
 use Rattle.rbsp.specs.declared.writer.ByteWriter.{ByteWriter}
-use Rattle.rbsp.specs.declared.writer.Written.{Written}
 
 -- any pushes of a stream, from a new reader that drops the first `skip` bytes: n bytes taken, the state, the bytes delivered
 abbrev pub ReadTrace : ℕ → List ℕ → ℕ → ParseState → List ℕ → List ℕ → Type 0
@@ -27,8 +29,8 @@ WriteTrace stream n s given ends = Pushes write_step write_entry new_byte_writer
 -- bytes
 abbrev pub ReadsAtOnce : ℕ → List ℕ → ℕ → ParseState → List ℕ → Type 0
 ReadsAtOnce skip stream n s given =
-    (out out' : List ℕ) (r : Pushed) → ReadPush (skipping skip) (take n stream) out out' r
-    → n ≤ most → length out ≤ most → length given ≤ length out → ReadGave (came_to n s given []) out out' r
+    (s' : ParseState) (out out' : List ℕ) (r : Result Pushed Stopped) → ReadPush (skipping skip) s' (take n stream) out out' r
+    → n ≤ most → length out ≤ most → length given ≤ length out → ReadGave (came_to n s given []) out out' s' r
 
 -- what was delivered is the unescape of what was taken past the skipped bytes, the state is fixed by the bytes taken, what was taken is legal, and
 -- one push comes to the same
@@ -49,8 +51,8 @@ pub record Seventh (skip : ℕ) (stream : List ℕ) (n taken : ℕ) : Type 0 whe
 -- ONE PUSH from a new writer, as on reading
 abbrev pub WritesAtOnce : List ℕ → ℕ → ByteWriter → List ℕ → Type 0
 WritesAtOnce stream n s given =
-    (out out' : List ℕ) (r : Written) → WritePush new_byte_writer (take n stream) out out' r
-    → n ≤ most → length out ≤ most → length given ≤ length out → WriteGave (came_to n s given []) out out' r
+    (s' : ByteWriter) (out out' : List ℕ) (r : Result Pushed Refusal) → WritePush new_byte_writer s' (take n stream) out out' r
+    → n ≤ most → length out ≤ most → length given ≤ length out → WriteGave (came_to n s given []) out out' s' r
 
 -- what was written is the escape of what was taken; it is legal, so it never holds 00 00 followed by 00, 01 or 02; it unescapes to what was taken;
 -- and one push comes to the same
@@ -80,5 +82,5 @@ RoomFor nal room = (length (unescape (drop 1 nal)) ≤ length room) ⊎ (unescap
 -- an outcome of `decode_nal`
 pub record DecodeWay (nal room : List ℕ) : Type 0 where
   pub room' : List ℕ
-  pub answer : Decoded
+  pub answer : Result Decoded Undecoded
   pub decodes : Decodes nal room room' answer

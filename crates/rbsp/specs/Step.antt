@@ -1,5 +1,5 @@
 -- What one byte does, and the state after any bytes.
-use Rattle.std.specs.Prelude.{ℕ, zero, suc, ◌≤◌, ◌≡◌, Bool, false, cond, ◌&&◌, List, [], ◌∷◌, drop, replicate, ltb}
+use Rattle.std.specs.Prelude.{ℕ, zero, suc, Bool, false, cond, ◌&&◌, List, [], ◌∷◌, drop, ltb}
 use Rattle.std.proofs.Math.Option.{Option, none, some}
 use Rattle.desk.specs.Numbers.{entry_of}
 use Rattle.desk.specs.Push.{Out, Next, Seen, seen}
@@ -8,10 +8,7 @@ use Rattle.desk.specs.Zeros.{two, zeros_after}
 use Rattle.rbsp.specs.Rule.{escape, unescape, ends_three}
 use Rattle.rbsp.specs.declared.reader.ParseState.{ParseState}
 use Rattle.rbsp.specs.declared.reader.ParseState.TheVariants.{Start, Skip, PostThree}
-use Rattle.rbsp.specs.declared.reader.Stepped.{Stepped}
-use Rattle.rbsp.specs.declared.reader.Stepped.TheVariants.{Take, Forbidden}
 use Rattle.rbsp.specs.declared.writer.ByteWriter.{ByteWriter}
-use Rattle.rbsp.specs.declared.writer.Stuffed.{Stuffed}
 
 -- ---- reading
 
@@ -35,11 +32,6 @@ read_step (Start z) b = scan z b
 read_step (Skip zero) b = scan 0 b
 read_step (Skip (suc k)) b = some (takes (skipping k) [])
 read_step PostThree b = cond (up_to3 b) (some (takes (Start (zeros_after 0 b)) (b ∷ []))) none
-
--- what the code's step says: the state behind the byte, and the byte itself or nothing
-abbrev pub step_out : Stepped → ℕ → Option (Out ParseState)
-step_out (Take s n) b = some (takes s (replicate n b))
-step_out Forbidden b = none
 
 -- a stored run of zeros over 2
 abbrev pub bad_reader : ParseState → Bool
@@ -78,17 +70,6 @@ goes_alone z b = record { after = zeros (zeros_after z b); bytes = b ∷ []; mar
 
 abbrev pub write_step : Next ByteWriter
 write_step s b = cond (stuffs s.zero_count b) (some (behind_three b)) (some (goes_alone s.zero_count b))
-
--- what the code's step says: the byte alone, or behind a 03
-abbrev pub stuffed_bytes : ℕ → ℕ → List ℕ
-stuffed_bytes zero b = []
-stuffed_bytes (suc zero) b = b ∷ []
-stuffed_bytes (suc (suc n)) b = 3 ∷ b ∷ []
-
-pub record StuffsAs (z b : ℕ) (r : Stuffed) : Type 0 where
-  pub next_is : write_step (zeros z) b ≡ some (record { after = r.after; bytes = stuffed_bytes r.count b; mark = false })
-  pub least : 1 ≤ r.count
-  pub most_two : r.count ≤ 2
 
 abbrev pub write_entry : ByteWriter → ℕ → ℕ → ℕ → ℕ
 write_entry s chunk w m = entry_of (chunk ∷ w ∷ m ∷ []) (ltb 2 s.zero_count)

@@ -1,11 +1,13 @@
 // Reading: removes the emulation prevention bytes. A push at a time, each byte taken singly.
-ghost use Rattle.std.specs.Prelude.{◌≡◌, ◌≤◌, length, replicate};
-ghost use Rattle.desk.specs.Room.{with_front};
-ghost use Rattle.rbsp.specs.Step.{read_step, skipping, bad_reader, step_out};
+ghost use Rattle.std.specs.Prelude.{◌≡◌};
+ghost use Rattle.rbsp.specs.Step.{read_step, skipping, bad_reader};
 ghost use Rattle.rbsp.specs.Answer.{ReadPush};
+ghost use Rattle.rbsp.specs.declared.reader.Stopped.TheVariants.{Refused};
+
+use desk::{Pushed, Refusal, Step, Steps};
 
 // The Rust's ParseState. Its `Three` falls away, since bytes are taken singly.
-#[derive(Clone, Copy)]
+#[derive(Clone, Copy, Debug, PartialEq, Eq)]
 pub enum ParseState {
     // Zeros at the end of what was taken: 0, 1 or 2.
     Start(u8),
@@ -15,98 +17,65 @@ pub enum ParseState {
     PostThree,
 }
 
-#[derive(Clone, Copy)]
+#[derive(Clone, Copy, Debug, PartialEq, Eq)]
 pub struct ByteReader {
     pub state: ParseState,
 }
 
-// What a push answers. Where the number is 7, taken is the index of the forbidden byte.
-#[derive(Clone, Copy)]
-pub struct Pushed {
-    pub number: u8,
-    pub taken: usize,
-    pub written: usize,
-    pub state: ByteReader,
+// Why a push stopped.
+#[derive(Clone, Copy, Debug, PartialEq, Eq)]
+pub enum Stopped {
+    // At its entry checks: nothing is taken.
+    Refused(Refusal),
+    // At a forbidden byte: what came before it was delivered, and the count taken is its index.
+    Forbidden(Pushed),
 }
 
-// What a byte does: the state behind it and whether it is delivered, as the count of bytes that it releases; or it is forbidden.
-#[derive(Clone, Copy)]
-pub(crate) enum Stepped {
-    Take(ParseState, usize),
-    Forbidden,
-}
+impl From<Refusal> for Stopped {
+    ghost from_gives = { λ e s. s ≡ Refused e };
 
-// Rec 7.4.1: behind two zeros 03 is removed, and 00, 01 and 02 are forbidden.
-fn scan(zeros: u8, b: u8) -> Stepped
-    ensures { step_out result b ≡ read_step (ParseState.Start zeros) b }
-{
-    if zeros < 2 {
-        return Stepped::Take(ParseState::Start(desk::zeros_after(zeros, b)), 1);
-    }
-    match b {
-        3 => Stepped::Take(ParseState::PostThree, 0),
-        0..=2 => Stepped::Forbidden,
-        _ => Stepped::Take(ParseState::Start(0), 1),
+    fn from(why: Refusal) -> Stopped {
+        Stopped::Refused(why)
     }
 }
 
-// Rec 7.4.1: behind a removed 03 only 00 to 03 may follow; a 00 is the first zero of a new pair.
-fn after_three(b: u8) -> Stepped
-    ensures { step_out result b ≡ read_step ParseState.PostThree b }
-{
-    if b > 3 {
-        return Stepped::Forbidden;
-    }
-    Stepped::Take(ParseState::Start(desk::zeros_after(0, b)), 1)
-}
-
-// The state with so many bytes yet to drop.
-fn skip_left(left: usize) -> ParseState
-    ensures { result ≡ skipping left }
-{
-    if left == 0 {
-        return ParseState::Start(0);
-    }
-    ParseState::Skip(left)
-}
-
-fn skip(left: usize, b: u8) -> Stepped
-    ensures { step_out result b ≡ read_step (ParseState.Skip left) b }
-{
-    if left == 0 {
-        return scan(0, b);
-    }
-    Stepped::Take(skip_left(left - 1), 0)
-}
-
-pub(crate) fn step(state: ParseState, b: u8) -> Stepped
-    ensures { step_out result b ≡ read_step state b }
-{
-    match state {
-        ParseState::Start(zeros) => scan(zeros, b),
-        ParseState::Skip(left) => skip(left, b),
-        ParseState::PostThree => after_three(b),
+impl ParseState {
+    // So many bytes are yet to be dropped, or none.
+    fn skipping(left: usize) -> ParseState
+        ensures { result ≡ skipping left }
+    {
+        match left {
+            0 => ParseState::Start(0),
+            _ => ParseState::Skip(left),
+        }
     }
 }
 
-// A stored run of zeros over 2.
-fn is_bad(state: ParseState) -> bool
-    ensures { result ≡ bad_reader state }
-{
-    match state {
-        ParseState::Start(zeros) => zeros > 2,
-        ParseState::Skip(_) => false,
-        ParseState::PostThree => false,
-    }
-}
+impl Steps for ParseState {
+    ghost next = { read_step };
 
-// Writes what a byte releases, itself or nothing, at the front of the room.
-fn put(room: &mut [u8], count: usize, b: u8)
-    requires { (count ≤ 1) × (count ≤ length room.old) }
-    ensures { room.new ≡ with_front room.old (replicate count b) }
-{
-    if count == 1 {
-        room[0] = b;
+    ghost LEAD = { 0 };
+
+    // Nothing goes before a byte.
+    const LEAD: u8 = 0;
+
+    // Rec 7.4.1: behind two zeros 03 is removed, and 00, 01 and 02 are forbidden; behind a removed 03 only 00 to 03 may follow, and a 00 is the first
+    // zero of a new pair. A byte to be dropped is not looked at.
+    fn step(self, b: u8) -> Option<Step<ParseState>> {
+        let (after, count) = match (self, b) {
+            (ParseState::Start(2..), 3) => (ParseState::PostThree, 0),
+            (ParseState::Start(2..), 0..=2) => return None,
+            (ParseState::Start(zeros), _) => (ParseState::Start(desk::zeros_after(zeros, b)), 1),
+            (ParseState::Skip(0), _) => (ParseState::Start(desk::zeros_after(0, b)), 1),
+            (ParseState::Skip(left), _) => (ParseState::skipping(left - 1), 0),
+            (ParseState::PostThree, 4..) => return None,
+            (ParseState::PostThree, _) => (ParseState::Start(desk::zeros_after(0, b)), 1),
+        };
+        Some(Step {
+            after,
+            count,
+            ends: false,
+        })
     }
 }
 
@@ -134,55 +103,23 @@ impl ByteReader {
         ensures { result.state ≡ skipping skip }
     {
         ByteReader {
-            state: skip_left(skip),
+            state: ParseState::skipping(skip),
         }
     }
 
-    // Takes bytes while all that the next one releases fits, up to a forbidden byte. 1: a lent buffer is too long. 2: a bad state.
-    pub fn push(self, chunk: &[u8], out: &mut [u8]) -> Pushed
-        ensures { ReadPush self.state chunk.now out.old out.new result }
+    // A stored run of zeros over 2.
+    fn is_bad(self) -> bool
+        ensures { result ≡ bad_reader self.state }
     {
-        let mut state = self.state;
-        let number = desk::entry(chunk.len(), out.len(), 0, is_bad(state));
-        if number != desk::DONE {
-            return Pushed {
-                number,
-                taken: 0,
-                written: 0,
-                state: self,
-            };
-        }
-        let mut taken: usize = 0;
-        let mut written: usize = 0;
-        while taken < chunk.len() {
-            let b = chunk[taken];
-            let s = step(state, b);
-            let Stepped::Take(after, count) = s else {
-                return Pushed {
-                    number: desk::FORBIDDEN_BYTE,
-                    taken,
-                    written,
-                    state: ByteReader { state },
-                };
-            };
-            if count > out.len() - written {
-                return Pushed {
-                    number: desk::DONE,
-                    taken,
-                    written,
-                    state: ByteReader { state },
-                };
-            }
-            put(&mut out[written..], count, b);
-            state = after;
-            written += count;
-            taken += 1;
-        }
-        Pushed {
-            number: desk::DONE,
-            taken,
-            written,
-            state: ByteReader { state },
-        }
+        matches!(&self.state, ParseState::Start(3..))
+    }
+
+    // Takes bytes while all that the next one releases fits, up to a forbidden byte. Refuses a lent buffer that is too long, and a bad state.
+    pub fn push(&mut self, chunk: &[u8], out: &mut [u8]) -> Result<Pushed, Stopped>
+        ensures { ReadPush self.old.state self.new.state chunk.now out.old out.new result }
+    {
+        desk::entry(chunk.len(), out.len(), 0, self.is_bad())?;
+        let pushed = desk::run(&mut self.state, chunk, out, &mut []);
+        pushed.map_err(Stopped::Forbidden)
     }
 }

@@ -1,45 +1,34 @@
-// Parts of slices, and numbers in them, highest byte first. Nothing is asked of a caller: what a slice has not is empty, or 0.
-ghost use Rattle.std.specs.Prelude.{◌<◌, ◌≤◌};
+// Parts of slices, and numbers in them, highest byte first. What a slice has not is empty, or 0. Of a caller only this is asked: a number has a byte
+// at least, and the words are fewer than 2^16.
+ghost use Rattle.std.specs.Prelude.{◌<◌, ◌^◌};
 
-fn wide(x: u8) -> u32
-    ensures { result < 256 }
+use std::array;
+
+// What stands before a place, and what from it on.
+pub(crate) fn cut(s: &[u8], at: usize) -> (&[u8], &[u8]) {
+    let at = at.min(s.len());
+    s.split_at(at)
+}
+
+// The first N numbers of W bytes each.
+pub(crate) fn numbers<const W: usize, const N: usize>(s: &[u8]) -> [[u8; W]; N]
+    requires { 0 < W }
 {
-    x as u32
+    let mut numbers = [[0; W]; N];
+    for (number, bytes) in numbers.iter_mut().zip(s.chunks(W)) {
+        *number = array::from_fn(|i| bytes.get(i).copied().unwrap_or(0));
+    }
+    numbers
 }
 
-pub fn byte_at(s: &[u8], i: usize) -> u32
-    ensures { result < 256 }
+// The first N words of 32 bits.
+pub(crate) fn words<const N: usize>(s: &[u8]) -> [u32; N]
+    requires { N < 2 ^ 16 }
 {
-    if i < s.len() {
-        return wide(s[i]);
-    }
-    0
+    numbers(s).map(u32::from_be_bytes)
 }
 
-// The k-th of the words of 32 bits.
-pub fn word_at(s: &[u8], k: u32) -> u32 {
-    let i = k as usize * 4;
-    let high = byte_at(s, i) * 256 + byte_at(s, i + 1);
-    let low = byte_at(s, i + 2) * 256 + byte_at(s, i + 3);
-    high * 65536 + low
-}
-
-// The k-th of the words of 16 bits.
-pub fn half_at(s: &[u8], k: u32) -> u32 {
-    let i = k as usize * 2;
-    byte_at(s, i) * 256 + byte_at(s, i + 1)
-}
-
-pub fn front(s: &[u8], n: usize) -> &[u8] {
-    if n > s.len() {
-        return s;
-    }
-    &s[..n]
-}
-
-pub fn behind(s: &[u8], n: usize) -> &[u8] {
-    if n > s.len() {
-        return &s[..0];
-    }
-    &s[n..]
+// The first byte.
+pub(crate) fn byte(s: &[u8]) -> u32 {
+    s.first().copied().map_or(0, u32::from)
 }

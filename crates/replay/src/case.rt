@@ -1,80 +1,158 @@
-// A case as it stands in a file, and the counts.
-ghost use Rattle.std.specs.Prelude.{◌≤◌};
+// The cases of a file.
+use super::bytes::{cut, words};
+use bits::{BitPos, BitReader};
+use desk::Refusal;
+use std::io::{self, Read};
 
-use super::bytes::word_at;
-
-// The call; what goes in: a, b, c and the input; what comes out: x, y, z and the output. The input and the output are told by their lengths.
+// What was called.
 #[derive(Clone, Copy)]
-pub struct Case {
-    pub call: u32,
-    pub a: u32,
-    pub b: u32,
-    pub c: u32,
-    pub x: u32,
-    pub y: u32,
-    pub z: u32,
-    pub input: usize,
-    pub output: usize,
+pub(crate) enum Call {
+    ReaderPushes,
+    WriterPushes,
+    DecodeNal,
+    Framing,
+    Read,
+    ReadBit,
+    ReadUe,
+    ReadSe,
+    Skip,
+    HasMoreRbspData,
+    FinishRbsp,
+    FinishSeiPayload,
+    Write,
+    WriteBit,
+    WriteUe,
+    WriteSe,
+    WriteTrailing,
+    SliceGroup,
+    SliceRect,
+    NumRefIdx,
 }
 
-impl Case {
-    pub fn all(self) -> usize {
-        std::num::wrapping_add_usize(self.input, self.output)
-    }
-}
-
-pub fn parse(head: &[u8]) -> Case {
-    Case {
-        call: word_at(head, 0),
-        a: word_at(head, 1),
-        b: word_at(head, 2),
-        c: word_at(head, 3),
-        x: word_at(head, 4),
-        y: word_at(head, 5),
-        z: word_at(head, 6),
-        input: word_at(head, 7) as usize,
-        output: word_at(head, 8) as usize,
-    }
-}
-
+// A number that stands for no call.
 #[derive(Clone, Copy)]
-pub struct Counts {
-    pub cases: u64,
-    pub differences: u64,
-    pub done: bool,
-}
+pub(crate) struct NoCall;
 
-pub fn none() -> Counts {
-    Counts {
-        cases: 0,
-        differences: 0,
-        done: false,
+impl TryFrom<u32> for Call {
+    type Error = NoCall;
+
+    fn try_from(number: u32) -> Result<Call, NoCall> {
+        Ok(match number {
+            0 => Call::ReaderPushes,
+            1 => Call::WriterPushes,
+            2 => Call::DecodeNal,
+            3 => Call::Framing,
+            4 => Call::Read,
+            5 => Call::ReadBit,
+            6 => Call::ReadUe,
+            7 => Call::ReadSe,
+            8 => Call::Skip,
+            9 => Call::HasMoreRbspData,
+            10 => Call::FinishRbsp,
+            11 => Call::FinishSeiPayload,
+            12 => Call::Write,
+            13 => Call::WriteBit,
+            14 => Call::WriteUe,
+            15 => Call::WriteSe,
+            16 => Call::WriteTrailing,
+            17 => Call::SliceGroup,
+            18 => Call::SliceRect,
+            19 => Call::NumRefIdx,
+            _ => return Err(NoCall),
+        })
     }
 }
 
-impl Counts {
-    pub fn ended(self) -> Counts {
-        Counts {
-            cases: self.cases,
-            differences: self.differences,
-            done: true,
+// The call; what goes in: a, b, c and the input; what comes out: x, y, z and the output.
+#[derive(Clone, Copy)]
+pub(crate) struct Case<'a> {
+    // A number: an unknown call is a difference, and the file goes on.
+    pub(crate) call: u32,
+    pub(crate) a: u32,
+    pub(crate) b: u32,
+    pub(crate) c: u32,
+    pub(crate) x: u32,
+    pub(crate) y: u32,
+    pub(crate) z: u32,
+    pub(crate) input: &'a [u8],
+    pub(crate) output: &'a [u8],
+}
+
+// The most bytes of a case's input and output.
+pub(crate) const MOST: usize = 4096;
+
+impl Case<'_> {
+    // A reader at bit a.
+    pub(crate) fn reader(self) -> BitReader {
+        BitReader {
+            at: BitPos(self.a as usize),
         }
     }
 
-    // A file that is cut short or holds what is no case: a difference.
-    pub fn broken(self) -> Counts {
-        Counts {
-            cases: self.cases,
-            differences: std::num::wrapping_add_u64(self.differences, 1),
-            done: true,
+    // The answer's number is the original's.
+    pub(crate) fn numbered<T>(self, answer: &Result<T, Refusal>) -> bool {
+        u32::from(desk::number(answer)) == self.x
+    }
+}
+
+// A case that the file cuts short, or whose head asks for more than MOST bytes.
+#[derive(Clone, Copy)]
+pub(crate) struct Broken;
+
+// The cases of a file, one behind the other, and the memory for the one that is lent.
+#[derive(Drop)]
+pub(crate) struct Cases<R> {
+    file: R,
+    body: [u8; MOST],
+}
+
+impl<R: Read> Cases<R> {
+    pub(crate) fn new(file: R) -> Cases<R> {
+        Cases {
+            file,
+            body: [0; MOST],
         }
     }
 
-    pub fn more(self, right: bool) -> Counts {
-        Counts {
-            cases: std::num::wrapping_add_u64(self.cases, 1),
-            differences: std::num::wrapping_add_u64(self.differences, if right { 0 } else { 1 }),
-            done: false,
+    // The next case; None at the end of the file. Its head is nine words; the last two are the lengths of its input and its output. What the file
+    // lacks of a head is 0.
+    pub(crate) fn next(&mut self) -> io::Result<Option<Result<Case<'_>, Broken>>> {
+        let Cases { file, body } = self;
+        let mut head = [0; 36];
+        if fill(file, &mut head)? == head.len() {
+            return Ok(None);
         }
+        let [call, a, b, c, x, y, z, input, output] = words::<9>(&head);
+        let all = input as usize + output as usize;
+        let Some(body) = body.get_mut(..all) else {
+            return Ok(Some(Err(Broken)));
+        };
+        if fill(file, body)? > 0 {
+            return Ok(Some(Err(Broken)));
+        }
+        let (input, output) = cut(body, input as usize);
+        Ok(Some(Ok(Case {
+            call,
+            a,
+            b,
+            c,
+            x,
+            y,
+            z,
+            input,
+            output,
+        })))
     }
+}
+
+// Reads until the buffer is full or the file ends: how much of the buffer is left. No `for`: how much a read gives, only it tells.
+fn fill(file: &mut impl Read, mut buf: &mut [u8]) -> io::Result<usize> {
+    while !buf.is_empty() {
+        let n = file.read(buf)?;
+        if n == 0 {
+            break;
+        }
+        buf = &mut buf[n..];
+    }
+    Ok(buf.len())
 }

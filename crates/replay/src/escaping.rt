@@ -1,67 +1,66 @@
 // Calls 0, 1 and 2: a reader and a writer, each by two pushes, and a whole NAL.
-use super::bytes::{behind, front};
-use super::case::Case;
-use rbsp::nal::{Decoded, decode_nal, shown};
-use rbsp::reader::ByteReader;
+use super::bytes::cut;
+use super::case::{Case, MOST};
+use desk::{Pushed, Refusal};
+use rbsp::nal::{Decoded, Undecoded, decode_nal, shown};
+use rbsp::reader::{ByteReader, Stopped};
 use rbsp::writer::ByteWriter;
 
-// The number, the bytes taken in all, and those written in all are the original's, and nothing behind them was written.
-fn told(case: Case, output: &[u8], room: &[u8], number: u8, taken: usize, written: usize) -> bool {
-    (number as u32 == case.x)
-        & (taken == case.y as usize)
-        & (written == output.len())
-        & check::same(front(room, written), output)
+// Two pushes: the number, and the bytes taken and written in all, are the original's.
+fn pushes_right<F>(case: Case, mut push: F) -> bool
+where
+    F: FnMut(&[u8], &mut [u8]) -> Result<Pushed, Stopped>,
+    requires { F.IsAlwaysCallable push }
+{
+    let mut room = [0; MOST];
+    let mut answer = Ok(());
+    let mut taken = 0usize;
+    let mut written = 0usize;
+    let (one, two) = cut(case.input, case.b as usize);
+    for part in [one, two] {
+        let Some(rest) = room.get_mut(written..) else {
+            return false;
+        };
+        let p = match push(part, rest) {
+            Ok(p) => p,
+            Err(Stopped::Forbidden(p)) => {
+                answer = Err(Refusal::ForbiddenByte);
+                p
+            },
+            // No buffer here is too long, and no state bad.
+            Err(Stopped::Refused(_)) => return false,
+        };
+        taken = taken.saturating_add(p.taken);
+        written = written.saturating_add(p.written);
+        if answer.is_err() {
+            break;
+        }
+    }
+    case.numbered(&answer) && taken == case.y as usize && room.get(..written) == Some(case.output)
 }
 
-fn reader_right(case: Case, input: &[u8], output: &[u8], room: &mut [u8]) -> bool {
-    let cut = case.b as usize;
-    let one = ByteReader::skipping_bytes(case.a as usize).push(front(input, cut), room);
-    let w = one.written;
-    if one.number != 0 {
-        return told(case, output, room, one.number, one.taken, w);
-    }
-    if w > room.len() {
-        return false;
-    }
-    let state = one.state;
-    let two = state.push(behind(input, cut), &mut room[w..]);
-    let taken = std::num::wrapping_add_usize(one.taken, two.taken);
-    let written = std::num::wrapping_add_usize(w, two.written);
-    told(case, output, room, two.number, taken, written)
+pub(crate) fn reader_right(case: Case) -> bool {
+    let mut reader = ByteReader::skipping_bytes(case.a as usize);
+    pushes_right(case, |chunk, room| reader.push(chunk, room))
 }
 
-fn writer_right(case: Case, input: &[u8], output: &[u8], room: &mut [u8]) -> bool {
-    let cut = case.b as usize;
-    let one = ByteWriter::new().push(front(input, cut), room);
-    let w = one.written;
-    if w > room.len() {
-        return false;
-    }
-    let state = one.state;
-    let two = state.push(behind(input, cut), &mut room[w..]);
-    let taken = std::num::wrapping_add_usize(one.taken, two.taken);
-    let written = std::num::wrapping_add_usize(w, two.written);
-    told(case, output, room, two.number, taken, written)
+pub(crate) fn writer_right(case: Case) -> bool {
+    let mut writer = ByteWriter::new();
+    pushes_right(
+        case,
+        |chunk, room| writer.push(chunk, room).map_err(Stopped::Refused),
+    )
 }
 
-fn decoded_right(case: Case, input: &[u8], output: &[u8], room: &mut [u8]) -> bool {
-    let d = decode_nal(input, room);
-    let bytes = check::same(shown(input, room, d), output);
-    match d {
-        Decoded::Own => bytes & (case.x == 0) & (case.y == 0),
-        Decoded::Filled(_) => bytes & (case.x == 0) & (case.y == 1),
-        Decoded::Forbidden(i) => bytes & (case.x == 7) & (case.z as usize == i),
-        Decoded::TooLong => false,
-        Decoded::Empty => false,
-        Decoded::NoRoom => false,
-    }
-}
-
-pub fn right(case: Case, input: &[u8], output: &[u8], room: &mut [u8]) -> bool {
-    let call = case.call;
-    match call {
-        0 => reader_right(case, input, output, room),
-        1 => writer_right(case, input, output, room),
-        _ => decoded_right(case, input, output, room),
-    }
+pub(crate) fn decoded_right(case: Case) -> bool {
+    let mut room = [0; MOST];
+    let decoded = decode_nal(case.input, &mut room);
+    let answered = match decoded {
+        Ok(Decoded::Own) => case.x == 0 && case.y == 0,
+        Ok(Decoded::Filled(_)) => case.x == 0 && case.y == 1,
+        Err(why) => {
+            u32::from(why.number()) == case.x && why == Undecoded::Forbidden(case.z as usize)
+        },
+    };
+    answered && shown(case.input, &room, decoded) == case.output
 }

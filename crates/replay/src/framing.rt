@@ -1,137 +1,60 @@
 // Call 3: a stream by two pushes, and a reset.
-use super::bytes::{behind, front, half_at};
-use super::case::Case;
+use super::bytes::{cut, numbers};
+use super::case::{Case, MOST};
 use annexb::{AnnexBReader, Pushed};
 
-// The bytes and units handed out so far, and whether all was as recorded.
+// What was given so far, bytes and units, and the recorded ends of the units that are still to come.
 #[derive(Clone, Copy)]
-struct Handed {
+struct Given<'a> {
     bytes: usize,
-    units: u32,
-    right: bool,
+    units: usize,
+    ends: &'a [u16],
 }
 
-// A call's marks are the recorded ends, from the unit after those that were handed out before it.
-fn marks_right(ends: &[u8], before: Handed, marks: &[u64], count: usize) -> bool {
-    let mut unit = before.units;
-    let mut i = 0;
-    while i < count {
-        if i >= marks.len() {
-            return false;
+impl Given<'_> {
+    // The marks of a call are the ends that come next; None where they are not. `cuts` has its like: two programs, each whole by itself.
+    fn more(&mut self, p: Pushed, marks: &[u64]) -> Option<()> {
+        let before = self.bytes as u64;
+        let (ends, later) = self.ends.split_at_checked(p.marked)?;
+        let mut pairs = marks.get(..p.marked)?.iter().zip(ends);
+        if !pairs.all(|(mark, end)| before.wrapping_add(*mark) == u64::from(*end)) {
+            return None;
         }
-        let end = std::num::wrapping_add_u64(before.bytes as u64, marks[i]);
-        if half_at(ends, unit) as u64 != end {
-            return false;
-        }
-        unit = std::num::wrapping_add_u32(unit, 1);
-        i += 1;
-    }
-    true
-}
-
-fn after(before: Handed, r: Pushed, ends: &[u8], marks: &[u64]) -> Handed {
-    let right = marks_right(ends, before, marks, r.marked);
-    Handed {
-        bytes: std::num::wrapping_add_usize(before.bytes, r.written),
-        units: std::num::wrapping_add_u32(before.units, half(r.marked)),
-        right: before.right & right & (r.number == 0),
+        self.bytes = self.bytes.saturating_add(p.written);
+        self.units = self.units.saturating_add(p.marked);
+        self.ends = later;
+        Some(())
     }
 }
 
-// A count of marks, of which no more than 512 are lent.
-fn half(n: usize) -> u32 {
-    if n > 65535 {
-        return 65535;
-    }
-    n as u32
-}
-
-fn push(
-    state: AnnexBReader,
-    before: Handed,
-    part: &[u8],
-    ends: &[u8],
-    room: &mut [u8],
-    marks: &mut [u64],
-) -> Step {
-    let w = before.bytes;
-    if w > room.len() {
-        return Step {
-            state,
-            handed: wrong(),
-        };
-    }
-    let r = state.push(part, &mut room[w..], marks);
-    let next = r.state;
-    let all = r.taken == part.len();
-    let handed = after(before, r, ends, marks);
-    Step {
-        state: next,
-        handed: Handed {
-            bytes: handed.bytes,
-            units: handed.units,
-            right: handed.right & all,
-        },
-    }
-}
-
-#[derive(Clone, Copy)]
-struct Step {
-    state: AnnexBReader,
-    handed: Handed,
-}
-
-fn wrong() -> Handed {
-    Handed {
+// None where a call gives other than what is recorded.
+fn run(case: Case) -> Option<()> {
+    let mut room = [0; MOST];
+    let mut marks = [0; 512];
+    let mut reader = AnnexBReader::new();
+    let (bytes, ends) = cut(case.output, case.y as usize);
+    let ends = numbers::<2, 2048>(ends).map(u16::from_be_bytes);
+    let mut given = Given {
         bytes: 0,
         units: 0,
-        right: false,
-    }
-}
-
-fn reset(
-    state: AnnexBReader,
-    before: Handed,
-    ends: &[u8],
-    room: &mut [u8],
-    marks: &mut [u64],
-) -> Handed {
-    let w = before.bytes;
-    if w > room.len() {
-        return wrong();
-    }
-    let r = state.reset(&mut room[w..], marks);
-    after(before, r, ends, marks)
-}
-
-fn two_pushes(input: &[u8], cut: usize, ends: &[u8], room: &mut [u8], marks: &mut [u64]) -> Step {
-    let start = Handed {
-        bytes: 0,
-        units: 0,
-        right: true,
+        ends: &ends,
     };
-    let one = push(
-        AnnexBReader::new(),
-        start,
-        front(input, cut),
-        ends,
-        room,
-        marks,
-    );
-    let state = one.state;
-    let handed = one.handed;
-    push(state, handed, behind(input, cut), ends, room, marks)
+    let (one, two) = cut(case.input, case.b as usize);
+    for part in [one, two] {
+        let p = reader
+            .push(part, room.get_mut(given.bytes..)?, &mut marks)
+            .ok()?;
+        given.more(p, &marks)?;
+        if p.taken < part.len() {
+            return None;
+        }
+    }
+    let p = reader.reset(room.get_mut(given.bytes..)?, &mut marks).ok()?;
+    given.more(p, &marks)?;
+    let all = given.units == case.x as usize && given.bytes == case.y as usize;
+    (all && room.get(..given.bytes)? == bytes).then_some(())
 }
 
-pub fn right(case: Case, input: &[u8], output: &[u8], room: &mut [u8], marks: &mut [u64]) -> bool {
-    let bytes = case.y as usize;
-    let ends = behind(output, bytes);
-    let two = two_pushes(input, case.b as usize, ends, room, marks);
-    let state = two.state;
-    let handed = two.handed;
-    let all = reset(state, handed, ends, room, marks);
-    all.right
-        & (all.units == case.x)
-        & (all.bytes == bytes)
-        & check::same(front(room, bytes), front(output, bytes))
+pub(crate) fn right(case: Case) -> bool {
+    run(case).is_some()
 }

@@ -9,110 +9,74 @@ mod escaping;
 mod framing;
 mod groups;
 
-use bytes::{behind, front};
-use case::{Case, Counts};
-use std::io::Read;
+use bits_cases::{more_right, read_right, signed, write_right};
+use bytes::byte;
+use case::{Call, Case, Cases};
 use std::rt::Files;
 use std::{fs, io};
 
-fn right(case: Case, input: &[u8], output: &[u8], room: &mut [u8], marks: &mut [u64]) -> bool {
-    let call = case.call;
+// Whether a call answers as the original did.
+fn right(case: Case) -> bool {
+    let Ok(call) = Call::try_from(case.call) else {
+        return false;
+    };
+    let Case { input, b, c, y, .. } = case;
+    // Each case goes to its own call, as recorded.
     match call {
-        0..=2 => escaping::right(case, input, output, room),
-        3 => framing::right(case, input, output, room, marks),
-        4..=11 => bits_cases::read_right(case, input),
-        12..=16 => bits_cases::write_right(case, input, output, room),
-        17..=19 => groups::right(case, input, output, room),
-        _ => false,
+        Call::ReaderPushes => escaping::reader_right(case),
+        Call::WriterPushes => escaping::writer_right(case),
+        Call::DecodeNal => escaping::decoded_right(case),
+        Call::Framing => framing::right(case),
+        Call::Read => read_right(case, y, |reader| reader.read(input, b)),
+        Call::ReadBit => read_right(case, y, |reader| reader.read_bit(input).map(u32::from)),
+        Call::ReadUe => read_right(case, y, |reader| reader.read_ue(input)),
+        Call::ReadSe => read_right(case, signed(c == 1, y), |reader| reader.read_se(input)),
+        Call::Skip => read_right(case, y, |reader| reader.skip(input, b).map(|()| 0)),
+        Call::HasMoreRbspData => more_right(case),
+        Call::FinishRbsp => case.numbered(&case.reader().finish_rbsp(input)),
+        Call::FinishSeiPayload => case.numbered(&case.reader().finish_sei_payload(input)),
+        Call::Write => write_right(case, |writer, room| writer.write(room, byte(input), c)),
+        Call::WriteBit => write_right(case, |writer, room| writer.write_bit(room, c == 1)),
+        Call::WriteUe => write_right(case, |writer, room| writer.write_ue(room, c)),
+        Call::WriteSe => write_right(
+            case,
+            |writer, room| writer.write_se(room, signed(byte(input) == 1, c)),
+        ),
+        Call::WriteTrailing => write_right(
+            case,
+            |writer, room| writer.write_rbsp_trailing_bits(room),
+        ),
+        Call::SliceGroup => groups::groups_right(case),
+        Call::SliceRect => groups::rect_right(case),
+        Call::NumRefIdx => read_right(case, y, |reader| pps::read_num_ref_idx(input, reader)),
     }
 }
 
-fn judged(case: Case, body: &[u8], room: &mut [u8], marks: &mut [u64]) -> bool {
-    let input = front(body, case.input);
-    let output = front(behind(body, case.input), case.output);
-    right(case, input, output, room, marks)
-}
-
-// Reads until buf is full or the file ends, and answers how many bytes it put at the start of buf.
-fn read_full(file: &mut impl Read, buf: &mut [u8]) -> io::Result<usize> {
-    let mut done = 0;
-    while done < buf.len() {
-        let n = file.read(&mut buf[done..])?;
-        if n == 0 {
-            break;
-        }
-        done += n;
-    }
-    Ok(done)
-}
-
-// The next case of a file, if there is one more.
-fn one_more(
-    file: &mut impl Read,
-    counts: Counts,
-    body: &mut [u8],
-    room: &mut [u8],
-    marks: &mut [u64],
-) -> io::Result<Counts> {
-    let mut head = [0u8; 36];
-    let got = read_full(file, &mut head)?;
-    if got == 0 {
-        return Ok(counts.ended());
-    }
-    let case = case::parse(&head);
-    let all = case.all();
-    if all > body.len() {
-        return Ok(counts.broken());
-    }
-    let read = read_full(file, &mut body[..all])?;
-    if read != all {
-        return Ok(counts.broken());
-    }
-    let well = judged(case, body, room, marks);
-    Ok(counts.more(well))
-}
-
-fn every(
-    file: &mut impl Read,
-    body: &mut [u8],
-    room: &mut [u8],
-    marks: &mut [u64],
-) -> io::Result<Counts> {
-    let mut counts = case::none();
-    let mut turns = u64::MAX;
-    while turns > 0 {
-        counts = one_more(file, counts, body, room, marks)?;
-        if counts.done {
-            return Ok(counts);
-        }
-        turns -= 1;
-    }
-    Ok(counts)
-}
-
-fn buffer() -> [u8; 4096] {
-    [0; 4096]
-}
-
-fn marks() -> [u64; 512] {
-    [0; 512]
-}
-
+// Memory is constant whatever the file's length. A broken case is a difference, and what follows it is not read. Nothing says that a file ends, so
+// turns are counted: none comes to 2^64 of them.
 fn replay(rt: &(impl Files + Print), name: &str, path: &str) -> io::Result<()> {
-    let mut file = fs::open(rt, path)?;
-    let mut body = buffer();
-    let mut room = buffer();
-    let mut ends = marks();
-    let counts = every(&mut file, &mut body, &mut room, &mut ends)?;
-    println!(rt;
-        "{name}{} cases, {} differences",
-        counts.cases, counts.differences
-    )
+    let mut file = Cases::new(fs::open(rt, path)?);
+    let mut cases = 0u64;
+    let mut differences = 0u64;
+    for _ in 0..u64::MAX {
+        let Some(next) = file.next()? else {
+            break;
+        };
+        let Ok(case) = next else {
+            differences = differences.saturating_add(1);
+            break;
+        };
+        cases = cases.saturating_add(1);
+        if !right(case) {
+            differences = differences.saturating_add(1);
+        }
+    }
+    println!(rt; "{name}: {cases} cases, {differences} differences")
 }
 
 fn main(rt: HostRuntime) -> io::Result<()> {
-    replay(&rt, "escaping: ", "escaping.bin")?;
-    replay(&rt, "framing: ", "framing.bin")?;
-    replay(&rt, "bits: ", "bits.bin")?;
-    replay(&rt, "groups: ", "groups.bin")
+    replay(&rt, "escaping", "escaping.bin")?;
+    replay(&rt, "framing", "framing.bin")?;
+    replay(&rt, "bits", "bits.bin")?;
+    replay(&rt, "groups", "groups.bin")
 }

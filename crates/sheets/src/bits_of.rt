@@ -1,70 +1,62 @@
 // ue(v), and finish_rbsp.
-use super::say;
-use bits::{Bit, BitPos, BitReader, BitWriter, Put};
-use std::io;
+use super::say::Hex;
+use bits::{BitPos, BitReader, BitWriter};
+use desk::Refusal;
+use std::{fmt, io};
 
-fn room() -> [u8; 16] {
-    [0xAA; 16]
+// The first `count` bits of some bytes: a count of bits, and no length of the slice.
+#[derive(Clone, Copy)]
+struct Code<'a> {
+    bytes: &'a [u8],
+    count: usize,
+}
+
+impl fmt::Display for Code<'_> {
+    fn fmt<W: fmt::Write>(&self, f: &mut fmt::Formatter<W>) -> fmt::Result {
+        let mut reader = BitReader::new();
+        for _ in 0..self.count {
+            let Ok(bit) = reader.read_bit(self.bytes) else {
+                break;
+            };
+            write!(f, "{}", u8::from(bit))?;
+        }
+        Ok(())
+    }
+}
+
+fn write(value: u32, room: &mut [u8]) -> Result<(), Refusal> {
+    let mut writer = BitWriter::new();
+    writer.write_ue(room, value)?;
+    writer.write_rbsp_trailing_bits(room)
 }
 
 // The code that write_ue gives, bit for bit, and what read_ue makes of it.
 fn ue(rt: &impl Print, value: u32) -> io::Result<()> {
-    let mut room = room();
-    say::text(rt, "ue ")?;
-    say::number(rt, value as u64)?;
-    say::text(rt, ":")?;
-    let put = BitWriter::new().write_ue(&mut room, value);
-    let Put::Done(w) = put else {
-        return say::text(rt, " refused\n");
-    };
-    let put = w.write_rbsp_trailing_bits(&mut room);
-    let Put::Done(_) = put else {
-        return say::text(rt, " refused\n");
-    };
-    say::text(rt, " ")?;
-    let read = BitReader::new().read_ue(&room);
-    let bits::Bits::Value(back, end) = read else {
-        return say::text(rt, "not read\n");
-    };
-    code(rt, &room, end.at.0)?;
-    say::text(rt, ", read back ")?;
-    say::number(rt, back as u64)?;
-    say::line(rt)
-}
-
-// The first `count` bits.
-fn code(rt: &impl Print, s: &[u8], count: usize) -> io::Result<()> {
-    let mut r = BitReader::new();
-    let mut i = 0;
-    while i < count {
-        let bit = r.read_bit(s);
-        let Bit::Value(one, next) = bit else {
-            return Ok(());
-        };
-        say::bit(rt, one)?;
-        r = next;
-        i += 1;
+    let mut room = [0xAA; 16];
+    print!(rt; "ue {value}: ")?;
+    if write(value, &mut room).is_err() {
+        return println!(rt; "refused");
     }
-    Ok(())
+    let mut reader = BitReader::new();
+    let Ok(back) = reader.read_ue(&room) else {
+        return println!(rt; "not read");
+    };
+    let code = Code {
+        bytes: &room,
+        count: reader.at.0,
+    };
+    println!(rt; "{code}, read back {back}")
 }
 
 fn finish(rt: &impl Print, s: &[u8], at: usize) -> io::Result<()> {
-    say::text(rt, "finish")?;
-    say::bytes(rt, s)?;
-    say::text(rt, " at ")?;
-    say::number(rt, at as u64)?;
-    say::text(rt, ": ")?;
-    let r = BitReader { at: BitPos(at) };
-    say::number(rt, r.finish_rbsp(s) as u64)?;
-    say::line(rt)
+    let finished = BitReader { at: BitPos(at) }.finish_rbsp(s);
+    println!(rt; "finish{} at {at}: {}", Hex(s), desk::number(&finished))
 }
 
 pub fn cases(rt: &impl Print) -> io::Result<()> {
-    ue(rt, 0)?;
-    ue(rt, 1)?;
-    ue(rt, 2)?;
-    ue(rt, 3)?;
-    ue(rt, 4294967294)?;
+    for value in [0, 1, 2, 3, 4294967294] {
+        ue(rt, value)?;
+    }
     finish(rt, b"\x80\x00\x00", 0)?;
     finish(rt, b"\xC0", 0)?;
     finish(rt, b"\xC0", 1)?;

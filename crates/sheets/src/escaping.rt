@@ -1,44 +1,29 @@
 // decode_nal and ByteWriter.
-use super::say;
-use rbsp::nal::{Decoded, decode_nal, shown};
+use super::say::{Hex, front};
+use rbsp::nal::{Decoded, Undecoded, decode_nal, shown};
 use rbsp::writer::ByteWriter;
 use std::io;
 
-fn room() -> [u8; 16] {
-    [0xAA; 16]
-}
-
 fn nal(rt: &impl Print, nal: &[u8]) -> io::Result<()> {
-    let mut room = room();
+    let mut room = [0xAA; 16];
     let decoded = decode_nal(nal, &mut room);
-    say::text(rt, "nal")?;
-    say::bytes(rt, nal)?;
-    say::text(rt, ": ")?;
+    print!(rt; "nal{}: ", Hex(nal))?;
     match decoded {
-        Decoded::Own => say::text(rt, "0, own tail")?,
-        Decoded::Filled(_) => say::text(rt, "0, room")?,
-        Decoded::TooLong => say::text(rt, "1")?,
-        Decoded::Empty => say::text(rt, "8")?,
-        Decoded::Forbidden(i) => forbidden(rt, i)?,
-        Decoded::NoRoom => say::text(rt, "10")?,
+        Ok(Decoded::Own) => print!(rt; "0, own tail")?,
+        Ok(Decoded::Filled(_)) => print!(rt; "0, room")?,
+        Err(Undecoded::Forbidden(at)) => print!(rt; "7, place {at}")?,
+        Err(other) => print!(rt; "{}", other.number())?,
     }
-    say::bytes(rt, shown(nal, &room, decoded))?;
-    say::line(rt)
-}
-
-fn forbidden(rt: &impl Print, i: usize) -> io::Result<()> {
-    say::text(rt, "7, place ")?;
-    say::number(rt, i as u64)
+    println!(rt; "{}", Hex(shown(nal, &room, decoded)))
 }
 
 fn escape(rt: &impl Print, rbsp: &[u8]) -> io::Result<()> {
-    let mut room = room();
-    let r = ByteWriter::new().push(rbsp, &mut room);
-    say::text(rt, "escape")?;
-    say::bytes(rt, rbsp)?;
-    say::text(rt, ":")?;
-    say::front(rt, &room, r.written)?;
-    say::line(rt)
+    let mut room = [0xAA; 16];
+    print!(rt; "escape{}:", Hex(rbsp))?;
+    match ByteWriter::new().push(rbsp, &mut room) {
+        Ok(p) => println!(rt; "{}", Hex(front(&room, p.written))),
+        Err(refusal) => println!(rt; " refused, {}", refusal.number()),
+    }
 }
 
 pub fn cases(rt: &impl Print) -> io::Result<()> {

@@ -1,69 +1,41 @@
 // AnnexBReader: a push of the whole stream, then a reset.
-use super::say;
+use super::say::{Hex, front};
 use annexb::AnnexBReader;
 use std::io;
 
-fn room() -> [u8; 64] {
-    [0xAA; 64]
-}
-
-fn mark_room() -> [u64; 8] {
-    [0; 8]
-}
-
-// The units that ended, by their marks; answers where the open one begins.
-fn units(rt: &impl Print, room: &[u8], marks: &[u64], marked: usize) -> io::Result<usize> {
-    let mut from: usize = 0;
-    let mut i = 0;
-    while i < marked {
-        from = unit(rt, room, from, mark(marks, i))?;
-        i += 1;
-    }
-    Ok(from)
-}
-
-fn mark(marks: &[u64], i: usize) -> usize {
-    if i < marks.len() {
-        return marks[i] as usize;
-    }
-    0
-}
-
-fn unit(rt: &impl Print, room: &[u8], from: usize, end: usize) -> io::Result<usize> {
-    if from > end {
-        return Ok(from);
-    }
-    if end > room.len() {
-        return Ok(from);
-    }
-    say::unit(rt, &room[from..end])?;
-    Ok(end)
+fn unit(rt: &impl Print, bytes: &[u8]) -> io::Result<()> {
+    print!(rt; " [{} ]", Hex(bytes))
 }
 
 fn stream(rt: &impl Print, s: &[u8]) -> io::Result<()> {
-    let mut room = room();
-    let mut marks = mark_room();
-    say::text(rt, "stream")?;
-    say::bytes(rt, s)?;
-    say::text(rt, ":")?;
-    let r = AnnexBReader::new().push(s, &mut room, &mut marks);
-    let from = units(rt, &room, &marks, r.marked)?;
-    let written = r.written;
-    if r.state.in_unit {
-        say::text(rt, " open")?;
-        unit(rt, &room, from, written)?;
-        say::text(rt, " and held ")?;
-        say::number(rt, r.state.zeros as u64)?;
-        say::text(rt, ", reset gives")?;
-    } else {
-        say::text(rt, " none open, reset gives")?;
+    let mut room = [0xAA; 64];
+    let mut marks = [0; 8];
+    let mut reader = AnnexBReader::new();
+    print!(rt; "stream{}:", Hex(s))?;
+    let Ok(p) = reader.push(s, &mut room, &mut marks) else {
+        return println!(rt; " refused");
+    };
+    let mut from = 0;
+    for end in front(&marks, p.marked) {
+        let end = *end as usize;
+        unit(rt, room.get(from..end).unwrap_or_default())?;
+        from = end;
     }
-    let state = r.state;
-    let last = state.reset(&mut room, &mut marks);
-    say::front(rt, &room, last.written)?;
-    say::text(rt, ", marks ")?;
-    say::number(rt, last.marked as u64)?;
-    say::line(rt)
+    if reader.in_unit {
+        print!(rt; " open")?;
+        unit(rt, room.get(from..p.written).unwrap_or_default())?;
+        print!(rt; " and held {}", reader.zeros)?;
+    } else {
+        print!(rt; " none open")?;
+    }
+    let Ok(p) = reader.reset(&mut room, &mut marks) else {
+        return println!(rt; " refused");
+    };
+    println!(rt;
+        ", reset gives{}, marks {}",
+        Hex(front(&room, p.written)),
+        p.marked
+    )
 }
 
 pub fn cases(rt: &impl Print) -> io::Result<()> {

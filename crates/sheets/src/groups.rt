@@ -1,65 +1,60 @@
 // SliceGroup::read.
-use super::say;
+use super::say::{Hex, front};
 use bits::BitReader;
-use pps::{Geometry, SliceGroup};
-use std::io;
+use pps::{Geometry, SliceGroup, SliceGroups, SliceRect};
+use std::{fmt, io};
 
-fn room() -> [u8; 8] {
-    [0xAA; 8]
+// The kind of groups, and of type 2 the first rectangle.
+#[derive(Clone, Copy)]
+struct Kind(SliceGroups);
+
+impl fmt::Display for Kind {
+    fn fmt<W: fmt::Write>(&self, f: &mut fmt::Formatter<W>) -> fmt::Result {
+        let SliceRect {
+            top_left,
+            bottom_right,
+        } = self.0.rectangles[0];
+        match self.0.group {
+            SliceGroup::Interleaved => write!(f, "interleaved"),
+            SliceGroup::Dispersed => write!(f, "dispersed"),
+            SliceGroup::ForegroundAndLeftover => {
+                write!(f, "rectangle {top_left} to {bottom_right}")
+            },
+            SliceGroup::Changing { .. } => write!(f, "changing"),
+            SliceGroup::ExplicitAssignment { .. } => write!(f, "ids"),
+        }
+    }
 }
 
-fn groups(rt: &impl Print, s: &[u8], n: u32, width: u32, size: u32) -> io::Result<()> {
-    let mut ids = room();
-    let geometry = Geometry {
+fn picture(width: u32, size: u32) -> Geometry {
+    Geometry {
         pic_width_in_mbs: width,
         pic_size_in_map_units: size,
-    };
-    let r = SliceGroup::read(s, BitReader::new(), n, geometry, &mut ids);
-    say::text(rt, "groups width ")?;
-    say::number(rt, width as u64)?;
-    say::text(rt, ", size ")?;
-    say::number(rt, size as u64)?;
-    say::text(rt, ", n ")?;
-    say::number(rt, n as u64)?;
-    say::text(rt, ", bytes")?;
-    say::bytes(rt, s)?;
-    say::text(rt, ": ")?;
-    say::number(rt, r.number as u64)?;
-    if r.number == 0 {
-        let groups = r.groups;
-        let group = groups.group;
-        let rects = groups.rectangles;
-        let first = rects[0];
-        match group {
-            SliceGroup::Interleaved => say::text(rt, ", interleaved")?,
-            SliceGroup::Dispersed => say::text(rt, ", dispersed")?,
-            SliceGroup::ForegroundAndLeftover => {
-                say::text(rt, ", rectangle ")?;
-                say::number(rt, first.top_left as u64)?;
-                say::text(rt, " to ")?;
-                say::number(rt, first.bottom_right as u64)?;
-            },
-            SliceGroup::Changing {
-                change_type: _,
-                slice_group_change_direction_flag: _,
-                slice_group_change_rate_minus1: _,
-            } => say::text(rt, ", changing")?,
-            SliceGroup::ExplicitAssignment {
-                pic_size_in_map_units_minus1: _,
-            } => say::text(rt, ", ids")?,
-        }
-        say::front(rt, &ids, r.ids)?;
-        say::text(rt, ", position ")?;
-        let at = r.reader.at.0;
-        say::number(rt, at as u64)?;
     }
-    say::line(rt)
+}
+
+fn groups(rt: &impl Print, s: &[u8], n: u32, picture: Geometry) -> io::Result<()> {
+    let mut room = [0xAA; 8];
+    let mut reader = BitReader::new();
+    print!(rt;
+        "groups width {}, size {}, n {n}, bytes{}: ",
+        picture.pic_width_in_mbs,
+        picture.pic_size_in_map_units,
+        Hex(s)
+    )?;
+    match SliceGroup::read(s, &mut reader, n, picture, &mut room) {
+        Ok(r) => {
+            let ids = Hex(front(&room, r.ids));
+            println!(rt; "0, {}{ids}, position {}", Kind(r.groups), reader.at.0)
+        },
+        Err(refusal) => println!(rt; "{}", refusal.number()),
+    }
 }
 
 pub fn cases(rt: &impl Print) -> io::Result<()> {
-    groups(rt, b"\x62\x46\x80", 1, 4, 12)?;
-    groups(rt, b"\x62\x47\x00", 1, 4, 12)?;
-    groups(rt, b"\x39\x06\x80", 2, 2, 4)?;
-    groups(rt, b"\x40", 1, 1, 36864)?;
-    groups(rt, b"\x40", 1, 1, 36865)
+    groups(rt, b"\x62\x46\x80", 1, picture(4, 12))?;
+    groups(rt, b"\x62\x47\x00", 1, picture(4, 12))?;
+    groups(rt, b"\x39\x06\x80", 2, picture(2, 4))?;
+    groups(rt, b"\x40", 1, picture(1, 36864))?;
+    groups(rt, b"\x40", 1, picture(1, 36865))
 }

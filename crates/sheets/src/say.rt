@@ -1,47 +1,20 @@
-// Lines on standard output.
-use std::io;
+// What the lines have in common.
+use std::fmt;
 
-pub fn text(rt: &impl Print, words: &str) -> io::Result<()> {
-    rt.print(words)
-}
+// Bytes in hexadecimal, a space before each.
+#[derive(Clone, Copy)]
+pub struct Hex<'a>(pub &'a [u8]);
 
-pub fn number(rt: &impl Print, n: u64) -> io::Result<()> {
-    rt.print(n)
-}
-
-fn byte(rt: &impl Print, b: u8) -> io::Result<()> {
-    print!(rt; " {b:02x}")
-}
-
-// Each byte in hexadecimal, behind a space.
-pub fn bytes(rt: &impl Print, b: &[u8]) -> io::Result<()> {
-    let mut i = 0;
-    while i < b.len() {
-        byte(rt, b[i])?;
-        i += 1;
+impl fmt::Display for Hex<'_> {
+    fn fmt<W: fmt::Write>(&self, f: &mut fmt::Formatter<W>) -> fmt::Result {
+        for byte in self.0 {
+            write!(f, " {byte:02x}")?;
+        }
+        Ok(())
     }
-    Ok(())
 }
 
-// The first n of them.
-pub fn front(rt: &impl Print, b: &[u8], n: usize) -> io::Result<()> {
-    if n <= b.len() {
-        bytes(rt, &b[0..n])?;
-    }
-    Ok(())
-}
-
-pub fn bit(rt: &impl Print, one: bool) -> io::Result<()> {
-    if one { text(rt, "1") } else { text(rt, "0") }
-}
-
-// A unit.
-pub fn unit(rt: &impl Print, b: &[u8]) -> io::Result<()> {
-    text(rt, " [")?;
-    bytes(rt, b)?;
-    text(rt, " ]")
-}
-
-pub fn line(rt: &impl Print) -> io::Result<()> {
-    text(rt, "\n")
+// The first n, of which there are so many.
+pub fn front<T>(s: &[T], n: usize) -> &[T] {
+    s.get(..n).unwrap_or_default()
 }

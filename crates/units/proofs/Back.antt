@@ -113,7 +113,7 @@ ends_count k (u ∷ us) = ap suc (ends_count (k + length u) us)
 
 pub read_units : (s bytes ends : List ℕ) → Read s bytes ends → (bytes ≡ joined (units_at_reset s)) × (ends ≡ ends_from 0 (units_at_reset s))
 read_units s bytes ends r =
-    let w = pushes_reset r.pushes r.room r.marks r.room' r.marks' r.closed r.reset r.done in
+    let w = pushes_reset r.pushes r.room r.marks r.after r.room' r.marks' r.closed r.reset in
     let all = ap units_at_reset (take-length s) in
     (r.bytes_are ∙ w.bytes_are ∙ ap joined all, r.ends_are ∙ w.ends_are ∙ ap (ends_from 0) all)
 
@@ -178,9 +178,9 @@ units_way ps =
             room' = z.room';
             marks = 0 ∷ [];
             marks' = z.marks';
+            after = z.after;
             closed = z.closed;
             reset = z.reset;
-            done = z.done;
             bytes_are = refl;
             ends_are = refl;
           };

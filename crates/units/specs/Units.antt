@@ -1,11 +1,13 @@
 -- UNITS WRITTEN BEHIND START CODES, AND READ BACK UNIT FOR UNIT (demand 3).
-use Rattle.std.specs.Prelude.{ℕ, ◌-◌, ◌≤◌, ◌≡◌, List, [], ◌∷◌, ◌++◌, map, ◌⊎◌, length, take, drop}
+use Rattle.std.specs.Prelude.{ℕ, ◌-◌, ◌≤◌, ◌≡◌, List, [], ◌∷◌, ◌++◌, map, ◌⊎◌, Result, Ok, length, take, drop}
 use Rattle.desk.specs.Numbers.{most}
 use Rattle.desk.specs.Push.{Pushes, shifted}
 use Rattle.desk.specs.Search.{trail}
+use Rattle.desk.specs.declared.push.Pushed.{Pushed}
 use Rattle.rbsp.specs.Answer.{number_of, Decodes, shown_of}
 use Rattle.rbsp.specs.Promise.{ReadTrace, WriteTrace}
 use Rattle.rbsp.specs.declared.nal.Decoded.{Decoded}
+use Rattle.rbsp.specs.declared.nal.Undecoded.{Undecoded}
 use Rattle.rbsp.specs.declared.reader.ParseState.{ParseState}
 use Rattle.rbsp.specs.declared.writer.ByteWriter.{ByteWriter}
 use Rattle.annexb.specs.Answer.{entering, FrameReset}
@@ -13,7 +15,6 @@ use Rattle.annexb.specs.Rule.{joined}
 use Rattle.annexb.specs.Seen.{new}
 use Rattle.annexb.specs.Step.{stepping}
 use Rattle.annexb.specs.declared.AnnexBReader.{AnnexBReader}
-use Rattle.annexb.specs.declared.Pushed.{Pushed}
 
 -- a unit to be written: its header byte, which is not zero, and its RBSP, which does not end in 00
 pub record Plain : Type 0 where
@@ -52,9 +53,9 @@ pub record Read (s : List ℕ) (bytes ends : List ℕ) : Type 0 where
   pub room' : List ℕ
   pub marks : List ℕ
   pub marks' : List ℕ
+  pub after : AnnexBReader
   pub closed : Pushed
-  pub reset : FrameReset state room marks room' marks' closed
-  pub done : closed.number ≡ 0
+  pub reset : FrameReset state room marks after room' marks' (Ok closed)
   pub bytes_are : bytes ≡ given ++ take closed.written room'
   pub ends_are : ends ≡ marked ++ shifted (length given) (take closed.marked marks')
 
@@ -70,7 +71,7 @@ GivesRbsp u = (s : ParseState) (given ends : List ℕ) → ReadTrace 1 (nal u) (
 -- so does `decode_nal` with `shown`: its number is 0, within the limit and where the room holds the RBSP or nothing was removed
 abbrev pub Shows : EscapedUnit → Type 0
 Shows u =
-    (room room' : List ℕ) (r : Decoded) → Decodes (nal u) room room' r → length (nal u) ≤ most → length room ≤ most
+    (room room' : List ℕ) (r : Result Decoded Undecoded) → Decodes (nal u) room room' r → length (nal u) ≤ most → length room ≤ most
     → (length u.plain.rbsp ≤ length room) ⊎ (u.plain.rbsp ≡ u.escaped)
     → (number_of r ≡ 0) × (shown_of (nal u) room' r ≡ u.plain.rbsp)
 

@@ -5,4 +5,6 @@ pub returns : goal.returns
 returns c =
     let a = c.args in
     let q = c.requires in
-    put_is a.out.now c.fill.new.out a.self a.n a.v q.0.good.below q.0.good.few q.1 c.fill.ensures
+    let p = c.from.ensures in
+    let v = c.from-2.ensures in
+    rw (p, v) (put_is a.out.now c.fill.new.out a.self.now a.n a.v q.0.good.below q.0.good.few q.1 (rw (p, v) at c.fill.ensures))

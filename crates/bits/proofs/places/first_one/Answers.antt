@@ -1,57 +1,48 @@
-use Rattle.std.proofs.Common.{◌≡◌, ◌+◌, ◌-◌, ◌*◌, ◌%◌, length, arith, sym, ap, ◌∙◌}
+use Rattle.std.proofs.Common.{ℕ, List, ◌≡◌, ◌+◌, ◌-◌, ◌*◌, ◌%◌, get_or, EachIndex, arith, subst, sym, ap, ◌∙◌}
+use Rattle.std.proofs.lemmas.List.{take_rest}
 use Rattle.bits.specs.Rule.{value_at}
-use Rattle.bits.proofs.Value.{value_lt, value_zero}
-use Rattle.bits.proofs.Ones.{first_found, found_none, after_zeros}
-use lib.Pow.{pow_mono}
+use Rattle.bits.specs.Step.{place, FirstNonzero}
+use Rattle.bits.proofs.Value.{value_byte_lt}
+use Rattle.bits.proofs.Ones.{first_top, first_behind, no_first, no_first_at_end}
 use Rattle.bits.proofs.places.first_one.Goals as goal
 
-pub returns-then-s-i : goal.returns-then-s-i
-returns-then-s-i c =
-    let s = c.args.s.now in
-    let p = c.args.at.0 in
-    found_none s p p (omega arith) (omega arith) (ap (value_at s p) (omega arith) ∙ value_zero s p)
+pub returns-then-holder-s : goal.returns-then-holder-s
+returns-then-holder-s c = no_first_at_end c.args.s.now c.args.at.0 (omega arith)
 
--- the head is at most 8 bits
-pub top_place-requires : goal.top_place-requires
-top_place-requires c =
-    let n = 8 - c.args.at.0 % 8 in
-    omega (arith, value_lt c.args.s.now c.args.at.0 n, pow_mono {i = n} {j = 8} (omega arith))
+-- the rest of a byte is at most 8 bits
+pub overflow_cast-head : goal.overflow_cast-head
+overflow_cast-head c =
+    let small = value_byte_lt c.args.s.now c.args.at.0 (8 - c.args.at.0 % 8) (omega arith) in
+    omega arith
 
 pub returns-then-head-ne0 : goal.returns-then-head-ne0
 returns-then-head-ne0 c =
     let s = c.args.s.now in
     let p = c.args.at.0 in
     let i = c.holder-holder.result.0 in
-    let n : 8 - p % 8 ≡ 8 * i + 8 - p = omega arith in
     let m = 8 - p % 8 in
-    first_found s p i c.top_place.result.0 c.bits_at-head.result (omega arith) (omega arith)
-    (c.bits_at-head.ensures ∙ ap (value_at s p) n) (omega arith)
-    (omega (arith, value_lt s p m, pow_mono {i = m} {j = 8} (omega arith))) c.top_place.ensures
+    let n : m ≡ 8 * i + 8 - p = omega arith in
+    let small = value_byte_lt s p m (omega arith) in
+    first_top s p i c.top_place.result.0 c.bits_at-head.result (omega arith) (omega arith)
+    (c.bits_at-head.ensures ∙ ap (value_at s p) n) (omega arith) (omega arith) c.top_place.ensures
 
-pub returns-then-b-ne0 : goal.returns-then-b-ne0
-returns-then-b-ne0 c =
+-- and zeros stand before the byte behind it
+pub returns-in_err-i : goal.returns-in_err-i
+returns-in_err-i c =
     let s = c.args.s.now in
     let p = c.args.at.0 in
-    let l = c.loop-i in
-    first_found s p l.i c.top_place-then-b-ne0.result.0 c.byte_to_u32-b.result (omega arith) (omega arith)
-    (c.byte_to_u32-b.ensures ∙ sym (after_zeros s p l.i l.invariant.from l.invariant.zeros (c.type_inv.s l.i).fits))
-    (omega arith) (omega (arith, c.type_inv.s l.i)) c.top_place-then-b-ne0.ensures
-
-pub loop-i-preserved : goal.loop-i-preserved
-loop-i-preserved c =
-    let s = c.args.s.now in
-    let p = c.args.at.0 in
-    let l = c.loop-i in
-    let n : 8 * (l.i + 1) - p ≡ 8 * l.i + 8 - p = omega arith in
-    record {
-      from = omega arith;
-      within = omega arith;
-      zeros = ap (value_at s p) n ∙ omega (arith, after_zeros s p l.i l.invariant.from l.invariant.zeros (c.type_inv.s l.i).fits);
-    }
+    let f = c.holder-holder.result.0 + 1 in
+    let n : 8 * f - p ≡ 8 - p % 8 = omega arith in
+    ap place c.from_residual.ensures
+    ∙ no_first s p f (omega arith) (omega arith) (ap (value_at s p) n ∙ sym c.bits_at-head.ensures ∙ c.if-head-ne0.false)
+    (subst (λ (l : List ℕ). EachIndex l (λ k. get_or l k 0 ≡ 0)) (take_rest s f) c.in_err-i.ensures)
 
 pub returns : goal.returns
 returns c =
     let s = c.args.s.now in
     let p = c.args.at.0 in
-    let n : 8 * length s - p ≡ 8 * c.loop-i.i - p = omega arith in
-    found_none s p (8 * length s) (omega arith) (omega arith) (ap (value_at s p) n ∙ c.loop-i.invariant.zeros)
+    let f = c.holder-holder.result.0 + 1 in
+    let i = c.in_ok-i.field-0 in
+    let n : 8 * f - p ≡ 8 - p % 8 = omega arith in
+    first_behind s p f i c.top_place-2.result.0 (omega arith) (ap (value_at s p) n ∙ sym c.bits_at-head.ensures ∙ c.if-head-ne0.false)
+    (subst (λ (l : List ℕ). FirstNonzero l i) (take_rest s f) c.in_ok-i.ensures) (c.type_inv.s (f + i)).fits c.top_place-2.ensures

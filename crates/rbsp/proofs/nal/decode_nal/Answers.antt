@@ -1,36 +1,37 @@
--- The answers in their order, by what the entry checks and the first pass tell.
-use Rattle.std.proofs.Common.{length, drop, arith}
-use Rattle.rbsp.proofs.Decoding.{entry_long, entry_fits, kept_is, broken_is, says_long, says_empty, says_forbidden}
+-- The refusals in their order, by what the entry checks and the first pass tell.
+use Rattle.std.proofs.Common.{◌∙◌, sym, ◌+◌, rules}
+use Rattle.std.proofs.lemmas.Result.{err_from_is_err_and}
+use Rattle.rbsp.specs.declared.nal.Undecoded.TheVariants.{TooLong, Forbidden}
+use Rattle.rbsp.proofs.Mapping.{mapped}
+use Rattle.rbsp.proofs.Decoding.{says_long, says_empty, says_forbidden, fillable}
 use Rattle.rbsp.proofs.nal.decode_nal.Goals as goal
 
-pub returns-then-entry-ne-DONE : goal.returns-then-entry-ne-DONE
-returns-then-entry-ne-DONE c =
-    let nal = c.args.nal.now in
-    let room = c.args.room.now in
-    says_long nal room (entry_long (length nal) (length room) _ c.entry.ensures c.if-entry-ne-DONE.true)
+pub returns-in_err-map_err : goal.returns-in_err-map_err
+returns-in_err-map_err c =
+    let p = err_from_is_err_and c.from_residual.result c.from_residual.ensures.1 in
+    let m = mapped (λ _. TooLong) c.entry.result c.map_err.result _ c.map_err.ensures.cases (λ e d k. search rules) in
+    rw (p.1, p.2) (says_long c.args.nal.now c.args.room.now c.entry.result c.entry.ensures c.in_err-map_err.field-0.0 (sym c.in_err-map_err.was ∙ m))
 
-pub returns-then-nal-eq0 : goal.returns-then-nal-eq0
-returns-then-nal-eq0 c =
-    let nal = c.args.nal.now in
-    let room = c.args.room.now in
-    says_empty nal room c.if-nal-eq0.true (entry_fits (length nal) (length room) _ c.entry.ensures c.if-entry-ne-DONE.false).1
+pub returns-in_err-tail : goal.returns-in_err-tail
+returns-in_err-tail c =
+    let p = err_from_is_err_and c.from_residual-in_err-tail.result c.from_residual-in_err-tail.ensures.1 in
+    let m = mapped (λ _. TooLong) c.entry.result c.map_err.result _ c.map_err.ensures.cases (λ e d k. search rules) in
+    rw (p.1, p.2) (says_empty c.args.nal.now c.args.room.now c.entry.result c.entry.ensures c.in_ok-map_err.field-0 (sym c.in_ok-map_err.was ∙ m)
+    c.split_first.result c.split_first.ensures.cases c.in_err-tail.field-0.0 c.in_err-tail.ensures.value)
+
+pub returns-in_err-kept : goal.returns-in_err-kept
+returns-in_err-kept c =
+    let p = err_from_is_err_and c.from_residual-in_err-kept.result c.from_residual-in_err-kept.ensures.1 in
+    let m = mapped (λ _. TooLong) c.entry.result c.map_err.result _ c.map_err.ensures.cases (λ e d k. search rules) in
+    let k = mapped (λ i. Forbidden (i + 1)) c.survey.result c.map_err-2.result _ c.map_err-2.ensures.cases (λ e d k. search rules) in
+    rw (p.1, p.2) (says_forbidden c.args.nal.now c.args.room.now c.entry.result c.entry.ensures c.in_ok-map_err.field-0
+    (sym c.in_ok-map_err.was ∙ m) c.split_first.result c.split_first.ensures.cases c.in_ok-tail.field-0-0 c.in_ok-tail.tail
+    c.in_ok-tail.ensures.value c.survey.result c.survey.ensures c.in_err-kept.field-0.0 (sym c.in_err-kept.was ∙ k))
 
 pub fill-requires : goal.fill-requires
 fill-requires c =
-    let few = entry_fits (length c.args.nal.now) (length c.args.room.now) _ c.entry.ensures c.if-entry-ne-DONE.false in
-    let k = kept_is _ (drop 1 c.args.nal.now) _ c.in-Kept.kept c.survey-seen.ensures c.in-Kept.is c.tail_of.ensures in
-    record {
-      some_nal = omega (arith, c.if-nal-eq0.false);
-      nal_few = few.0;
-      room_few = few.1;
-      unbroken = k.0;
-      kept_is = k.1;
-    }
-
-pub returns-in-Forbidden : goal.returns-in-Forbidden
-returns-in-Forbidden c =
-    let nal = c.args.nal.now in
-    let room = c.args.room.now in
-    let few = entry_fits (length nal) (length room) _ c.entry.ensures c.if-entry-ne-DONE.false in
-    let k = broken_is _ (drop 1 nal) _ c.in-Forbidden.i c.survey-seen.ensures c.in-Forbidden.is c.tail_of.ensures in
-    says_forbidden nal room c.in-Forbidden.i (omega (arith, c.if-nal-eq0.false)) few.0 few.1 k.0
+    let m = mapped (λ _. TooLong) c.entry.result c.map_err.result _ c.map_err.ensures.cases (λ e d k. search rules) in
+    let k = mapped (λ i. Forbidden (i + 1)) c.survey.result c.map_err-2.result _ c.map_err-2.ensures.cases (λ e d k. search rules) in
+    fillable c.args.nal.now c.args.room.now c.entry.result c.entry.ensures c.in_ok-map_err.field-0 (sym c.in_ok-map_err.was ∙ m)
+    c.split_first.result c.split_first.ensures.cases c.in_ok-tail.field-0-0 c.in_ok-tail.tail c.in_ok-tail.ensures.value
+    c.survey.result c.survey.ensures c.in_ok-kept.kept (sym c.in_ok-kept.was ∙ k)

@@ -1,10 +1,6 @@
-use Rattle.std.proofs.Common.{length, ◌-◌}
 use Rattle.rbsp.proofs.Decoding.{Surveying}
 use Rattle.rbsp.proofs.nal.survey.Given as goal
 
 -- so far no byte is forbidden, and so many are kept
 abbrev pub invariant-loop-i : goal.invariant-loop-i
 invariant-loop-i l = Surveying l.tail l.state l.kept l.i
-
-abbrev pub decreases-loop-i : goal.decreases-loop-i
-decreases-loop-i l = length l.tail - l.i
