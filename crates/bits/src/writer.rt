@@ -10,11 +10,14 @@ use super::golomb::{prefix_len, unsigned_of};
 use super::{BitWriter, BytePos};
 use desk::Refusal;
 
-// The k low bytes of y, from a place on.
+// The k low bytes of y, from a place on. There are mostly none, and a copy of none would cost a call.
 fn fill(out: &mut [u8], at: BytePos, k: usize, y: u64)
     requires { (at.0 + k ≤ length out.old) × (k ≤ 5) × (length out.old ≤ most) }
     ensures { out.new ≡ filled out.old at.0 k y }
 {
+    if k == 0 {
+        return;
+    }
     let bytes = y.to_be_bytes();
     out[at.0..at.0 + k].copy_from_slice(&bytes[8 - k..]);
 }

@@ -1,9 +1,15 @@
-use Rattle.std.proofs.Common.{◌-◌, ◌+◌, ap, sym, ◌∙◌, arith, take, drop}
+use Rattle.std.proofs.Common.{◌≡◌, ◌-◌, ◌+◌, ap, sym, ◌∙◌, arith, take, drop}
 use Rattle.std.proofs.lemmas.Slice.{put_mid-paste}
-use Rattle.std.proofs.Math.Seq.{take_all}
+use Rattle.std.proofs.Math.Seq.{take_all, paste-zero}
 use Rattle.bits.specs.Step.{bytes_of}
 use Rattle.bits.proofs.Storing.{length_bytes, last_bytes, paste_filled}
 use Rattle.bits.proofs.writer.fill.Goals as goal
+
+pub returns-then-k-eq0 : goal.returns-then-k-eq0
+returns-then-k-eq0 c =
+    let a = c.args in
+    let e : a.k ≡ 0 = omega arith in
+    rw e (paste-zero a.out.now a.at.0 (bytes_of 0 a.y) ∙ paste_filled a.out.now a.at.0 0 a.y)
 
 pub returns : goal.returns
 returns c =
