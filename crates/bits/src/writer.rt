@@ -10,7 +10,8 @@ use super::golomb::{prefix_len, unsigned_of};
 use super::{BitWriter, BytePos};
 use desk::Refusal;
 
-// The k low bytes of y, from a place on. There are mostly none, and a copy of none would cost a call.
+// The k low bytes of y, from a place on. There are mostly none, and a copy of none would cost a call. The place and the count stand beside the room,
+// since the rule speaks of all of it.
 fn fill(out: &mut [u8], at: BytePos, k: usize, y: u64)
     requires { (at.0 + k ≤ length out.old) × (k ≤ 5) × (length out.old ≤ most) }
     ensures { out.new ≡ filled out.old at.0 k y }
@@ -54,7 +55,7 @@ impl BitWriter {
     }
 
     // Would the whole bytes pass the room, with n bits more? What holds behind the entry checks (`Good`, and a width of 32 at most) stands in the
-    // requires of each function from here on: a type for it would borrow the writer and the room, and be made anew in each call.
+    // requires of the private functions from here on: a type for it would borrow the writer and the room, and be made anew in each call.
     fn lacks_room(self, room: usize, n: u32) -> bool
         requires { Good room self × (n ≤ 63) }
         ensures { result ≡ ltb room (whole_with self n) }
@@ -62,7 +63,7 @@ impl BitWriter {
         room < self.written.0 + (self.count as usize + n as usize) / 8
     }
 
-    // n bits of v, which have room.
+    // n bits of v, which have room. `as` here: with `usize::from` the proof did not close.
     fn put(&mut self, out: &mut [u8], n: u32, v: u32)
         requires { HasRoom (length out.old) self.old n × (n ≤ 32) × (v < 2 ^ n) }
         ensures { wrote self.new out.new ≡ stored out.old self.old n v }

@@ -38,7 +38,7 @@ impl<'a, 'b> Run<'a, 'b> {
         }
     }
 
-    // The marks and the bytes of a call are those that come next.
+    // The marks and the bytes of a call are those that come next. `replay` has its like: two programs, each whole by itself.
     fn compare(&mut self, p: Pushed) -> Option<()> {
         let before = self.given;
         let (ends, later) = self.ends.split_at_checked(p.marked)?;

@@ -81,6 +81,7 @@ pub fn run<S: Steps>(
         put_mark(&mut marks[pushed.marked..], step.ends, mark);
         put(&mut room[pushed.written..], S::LEAD, step.count, b);
         *state = step.after;
+        // By hand: the three counts are the answer, and the loop may stop before the chunk does.
         pushed.taken += 1;
         pushed.written += step.count;
         pushed.marked += ends;

@@ -37,7 +37,7 @@ impl Refusal {
     }
 }
 
-// The number of an answer: 0, or that of its refusal.
+// The number of an answer: 0, or that of its refusal. By a name, as `Refusal::number`.
 pub fn number<T>(answer: &Result<T, Refusal>) -> u8
     ensures { result ≡ answered answer.now }
 {

@@ -1,4 +1,5 @@
-// Slice groups: the calls of `pps`.
+// Slice groups: the calls of `pps`. The numbers of a group, of a rectangle and of a picture are the C interface's; `replay` and `sheets` have the
+// like of their own, which are those of a recorded file and of a printed line.
 ghost use Rattle.std.specs.Prelude.{◌≡◌};
 ghost use Rattle.pps.specs.Rule.{num_ref_idx};
 ghost use Rattle.pps.specs.Answer.{rect_of};

@@ -1,4 +1,5 @@
-// Reading bits: the calls of `bits`. A reader is its place in bits, `at`.
+// Reading bits: the calls of `bits`. A reader is its place in bits, `at`. The reads are alike but for the call: each is a function of the C
+// interface.
 ghost use Rattle.std.specs.Prelude.{◌≡◌, ◌%◌, eqb};
 ghost use Rattle.bits.specs.Reading.{reader_at, read_bits, read_bit, read_ue, read_se, skipped, has_more, finish_rbsp, finish_sei, whole_bytes};
 ghost use Rattle.exports.specs.Bits.{FrontsBits, FrontsBit, FrontsMoved, FrontsSigned, FrontsMore, FrontsAligned};

@@ -1,4 +1,4 @@
-// The same program as `listing`, run on empty input.
+// The same program as `listing`, run on empty input. A program of its own, since the gate runs a program on one input.
 #![tactic(auto)]
 
 use std::process::ExitCode;

@@ -1,5 +1,6 @@
 // The slice-group part of the syntax table, Rec 7.3.2.2. The map type is decided by ranges, and each field's answer taken apart by `let .. else`, as
-// document 01 asks. `count` and `picture` stand apart, since a rectangle read by itself has a picture and no count.
+// document 01 asks. `count` and `picture` stand apart: a rectangle read by itself has no count, and a struct of both would be
+// taken apart in each function.
 ghost use Rattle.std.specs.Prelude.{◌≡◌};
 ghost use Rattle.pps.specs.Rule.{run_lengths, rectangles, change};
 ghost use Rattle.pps.specs.Step.{ReadsPart, ReadsTable};
@@ -143,8 +144,8 @@ impl FieldReader<'_> {
 }
 
 impl SliceGroup {
-    // A refusal leaves the reader and the ids as they came. Five things are lent and given, as document 01 has them: no two of them go together
-    // elsewhere.
+    // A refusal leaves the reader and the ids as they came. Five things are lent and given, as document 01 has them: its reader holds no bytes,
+    // so `s` and `reader` stand apart in every read.
     pub fn read(
         s: &[u8],
         reader: &mut BitReader,

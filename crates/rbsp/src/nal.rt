@@ -25,6 +25,7 @@ pub enum Undecoded {
 }
 
 impl Undecoded {
+    // By a name, as `Refusal::number`.
     pub fn number(self) -> u8
         ensures { result ≡ refused_with self }
     {
@@ -52,7 +53,7 @@ fn survey(tail: &[u8]) -> Result<usize, usize>
     Ok(kept)
 }
 
-// A tail that holds no forbidden byte, and of which `kept` bytes are kept. All are, where none was removed.
+// A tail that holds no forbidden byte, and of which `kept` bytes are kept. All are, where none was removed: so it is no length of the slice.
 fn fill(nal: &[u8], room: &mut [u8], kept: usize) -> Result<Decoded, Undecoded>
     requires { Fillable nal.now room.old kept }
     ensures { Decodes nal.now room.old room.new result }

@@ -84,18 +84,14 @@ impl ByteReader {
     pub fn without_skip() -> ByteReader
         ensures { result.state ≡ skipping 0 }
     {
-        ByteReader {
-            state: ParseState::Start(0),
-        }
+        ByteReader::skipping_bytes(0)
     }
 
     // Drops the one byte of the H.264 NAL header.
     pub fn skipping_h264_header() -> ByteReader
         ensures { result.state ≡ skipping 1 }
     {
-        ByteReader {
-            state: ParseState::Skip(1),
-        }
+        ByteReader::skipping_bytes(1)
     }
 
     // Drops the first `skip` bytes.

@@ -4,7 +4,7 @@ ghost use Rattle.std.specs.Prelude.{◌<◌, ◌^◌};
 
 use std::array;
 
-// What stands before a place, and what from it on.
+// What stands before a place, which is no length of the slice, and what from it on.
 pub(crate) fn cut(s: &[u8], at: usize) -> (&[u8], &[u8]) {
     let at = at.min(s.len());
     s.split_at(at)

@@ -21,7 +21,7 @@ fn right(case: Case) -> bool {
         return false;
     };
     let Case { input, b, c, y, .. } = case;
-    // Each case goes to its own call, as recorded.
+    // Each case goes to its own call, as recorded. The calls differ in what they take: a table of closures would be no plainer.
     match call {
         Call::ReaderPushes => escaping::reader_right(case),
         Call::WriterPushes => escaping::writer_right(case),

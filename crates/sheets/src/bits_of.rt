@@ -48,6 +48,7 @@ fn ue(rt: &impl Print, value: u32) -> io::Result<()> {
     println!(rt; "{code}, read back {back}")
 }
 
+// `at` counts bits.
 fn finish(rt: &impl Print, s: &[u8], at: usize) -> io::Result<()> {
     let finished = BitReader { at: BitPos(at) }.finish_rbsp(s);
     println!(rt; "finish{} at {at}: {}", Hex(s), desk::number(&finished))
