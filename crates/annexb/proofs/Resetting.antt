@@ -9,7 +9,7 @@ use lib.ListN.{length, replicate, length-replicate}
 use borrow.Author.Tests.{le-leb, lt-leb, ne_eqb}
 use mir.Val.{bool_byte}
 use Rattle.std.specs.Prelude.{Result, Ok, Err}
-use Rattle.desk.specs.Refusing.{number_of}
+use Rattle.desk.specs.Refusing.{refusal_number}
 use Rattle.desk.specs.Room.{with_front}
 use Rattle.desk.specs.Push.{Answer, answers}
 use Rattle.desk.specs.Steps.{Gave}
@@ -23,13 +23,13 @@ use Rattle.annexb.specs.Seen.{new}
 use Rattle.annexb.specs.Answer.{entering, closing, reset_answer, FrameReset}
 
 module _ (s : AnnexBReader) (room marks : List ℕ) where
-  pub reset_refused : (why : Refusal) → number_of why ≡ entering s 0 (length room) (length marks)
+  pub reset_refused : (why : Refusal) → refusal_number why ≡ entering s 0 (length room) (length marks)
       → FrameReset s room marks s room marks (Err why)
   unfolding reset_answer
   reset_refused why e =
       let z = number_some why in
-      let n : number_of why ≡ 0 → ⊥ = λ q. omega arith in
-      rw (← e, ne_eqb (number_of why) 0 n) (gives_alone (number_of why) s room marks)
+      let n : refusal_number why ≡ 0 → ⊥ = λ q. omega arith in
+      rw (← e, ne_eqb (refusal_number why) 0 n) (gives_alone (refusal_number why) s room marks)
 
   module _ (z : 0 ≡ entering s 0 (length room) (length marks)) where
     went : reset_answer s (length room) (length marks) ≡ closing s (length room) (length marks)

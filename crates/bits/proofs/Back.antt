@@ -2,7 +2,7 @@
 use Rattle.std.specs.Prelude.{ℕ, ◌≤◌, ◌<◌, ◌≡◌, List, Result, Ok, Err}
 use mathlib.Core.Path.{refl, sym, ap, ap₂, ◌∙◌}
 use mathlib.Core.Option.{Option, none, some}
-use Rattle.desk.specs.Refusing.{number_of, answered}
+use Rattle.desk.specs.Refusing.{refusal_number, answered}
 use Rattle.desk.specs.declared.refusal.Refusal.{Refusal}
 use Rattle.desk.proofs.Refusing.{number_one, number_every}
 use Rattle.bits.specs.Step.{Wrote, wrote, kept}
@@ -17,7 +17,7 @@ pub told_one : {A : Type 0} (r r' : Result A Refusal) → told_by r ≡ told_by 
 told_one (Ok a) (Ok b) q = let e : a ≡ b = cc in ap (λ x. Ok x) e
 told_one (Ok a) (Err f) q = cc
 told_one (Err e) (Ok b) q = cc
-told_one (Err e) (Err f) q = let n : number_of e ≡ number_of f = cc in ap (λ x. Err x) (number_one n)
+told_one (Err e) (Err f) q = let n : refusal_number e ≡ refusal_number f = cc in ap (λ x. Err x) (number_one n)
 
 pub told_is_number : {A : Type 0} (r : Result A Refusal) → answered r ≡ told_number (told_by r)
 told_is_number (Ok a) = refl
@@ -34,7 +34,7 @@ answer_of : {A : Type 0} (from after : BitReader) (r : Result A Refusal) (a : An
 answer_of {A} from after (Ok v) (got w q) t k = let e : v ≡ w = cc in ap₂ (λ (x : A) (s : BitReader). got x s.at.0) e k
 answer_of from after (Ok v) (no n) t k = cc
 answer_of from after (Err e) (got w q) t k = cc
-answer_of from after (Err e) (no n) t k = let i : number_of e ≡ n = cc in ap (λ (x : ℕ). no x) i
+answer_of from after (Err e) (no n) t k = let i : refusal_number e ≡ n = cc in ap (λ (x : ℕ). no x) i
 
 -- a number that an answer refuses with is of the table
 abbrev pub InTable : {A : Type 0} → Ans A → Type 0
@@ -63,7 +63,7 @@ module _ {A : Type 0} {from : BitReader} where
   pub reads : {after : BitReader} {v : A} {a : Ans A} → a ≡ got v after.at.0 → Reads from after (Ok v) a
   reads e = record { answers = ap told_of (sym e); cursor = ap (reader_back from) (sym e) }
 
-  pub refuses : {e : Refusal} {a : Ans A} → a ≡ no (number_of e) → Reads from from (Err e) a
+  pub refuses : {e : Refusal} {a : Ans A} → a ≡ no (refusal_number e) → Reads from from (Err e) a
   refuses e = record { answers = ap told_of (sym e); cursor = ap (reader_back from) (sym e) }
 
   -- and each answer of a value, or of a number of the table, is one that some call gives
@@ -88,7 +88,7 @@ outcome_of : (from after : BitWriter) (r : Result Unit Refusal) (o : List ℕ) (
 outcome_of from after (Ok v) o (wrote st l) t k m = ap₂ (λ (x : BitWriter) (y : List ℕ). wrote x y) k m
 outcome_of from after (Ok v) o (kept n l) t k m = cc
 outcome_of from after (Err e) o (wrote st l) t k m = cc
-outcome_of from after (Err e) o (kept n l) t k m = let i : number_of e ≡ n = cc in ap₂ (λ (x : ℕ) (y : List ℕ). kept x y) i m
+outcome_of from after (Err e) o (kept n l) t k m = let i : refusal_number e ≡ n = cc in ap₂ (λ (x : ℕ) (y : List ℕ). kept x y) i m
 
 abbrev pub WroteInTable : Wrote → Type 0
 WroteInTable (wrote st o) = Unit

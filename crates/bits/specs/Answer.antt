@@ -3,7 +3,7 @@ use Rattle.std.specs.Prelude.{ℕ, zero, suc, ◌+◌, ◌-◌, ◌/◌, ◌%◌
 use Rattle.std.specs.Prelude.{Result, Ok, Err, Option as Optional, Some, None}
 use Rattle.std.proofs.Math.Option.{Option, none, some}
 use Rattle.desk.specs.Numbers.{done, bad_width, bits_run_out, exp_golomb_too_large, remaining_data, no_code, no_room, entry_of}
-use Rattle.desk.specs.Refusing.{number_of}
+use Rattle.desk.specs.Refusing.{refusal_number}
 use Rattle.desk.specs.declared.refusal.Refusal.{Refusal}
 use Rattle.bits.specs.Rule.{size, value_at, first_one, last_one, signed_of, unsigned_of, prefix_of}
 use Rattle.bits.specs.Step.{Wrote, wrote, kept, writer, whole_with, stored}
@@ -108,12 +108,12 @@ finish_sei s p = unless (λ n. n) (entry_at s p) (cond (eqb p (size s)) done (fi
 
 abbrev pub answer : {A : Type 0} → Result A Refusal → BitReader → Ans A
 answer (Ok a) r = got a r.at.0
-answer (Err e) r = no (number_of e)
+answer (Err e) r = no (refusal_number e)
 
 -- without the reader
 abbrev pub told_by : {A : Type 0} → Result A Refusal → Told A
 told_by (Ok a) = told a
-told_by (Err e) = denied (number_of e)
+told_by (Err e) = denied (refusal_number e)
 
 abbrev pub told_of : {A : Type 0} → Ans A → Told A
 told_of (got a q) = told a
@@ -209,7 +209,7 @@ write_trailing o st = unless (λ k. kept k o) (entry_on (length o) st) (roomed o
 
 abbrev pub outcome : Result Unit Refusal → BitWriter → List ℕ → Wrote
 outcome (Ok u) st o = wrote st o
-outcome (Err e) st o = kept (number_of e) o
+outcome (Err e) st o = kept (refusal_number e) o
 
 abbrev pub wrote_told : Wrote → Told Unit
 wrote_told (wrote st o) = told tt

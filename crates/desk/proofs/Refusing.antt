@@ -2,13 +2,13 @@
 use Rattle.std.specs.Prelude.{ℕ, zero, suc, ◌+◌, ◌-◌, ◌<◌, ◌≤◌, ◌≡◌, List, [], ◌∷◌, length, get_or, Result, Ok, Err}
 use mathlib.Core.Path.{refl, ap, sym, ◌∙◌}
 use native.Mathlib.Omega.{arith}
-use Rattle.desk.specs.Refusing.{number_of, answered}
+use Rattle.desk.specs.Refusing.{refusal_number, answered}
 use Rattle.desk.specs.declared.refusal.Refusal.{Refusal}
 use Rattle.desk.specs.declared.refusal.Refusal.TheVariants.{TooLong, BadState, BadWidth, BitsRunOut, ExpGolombTooLarge, RemainingData, ForbiddenByte}
 use Rattle.desk.specs.declared.refusal.Refusal.TheVariants.{EmptyNal, NoCode, NoRoom, BadGeometry, BadMapType, BadRunLength, InvalidTopLeft}
 use Rattle.desk.specs.declared.refusal.Refusal.TheVariants.{InvalidBottomRight, BadChangeRate, BadPicSize, BadNumRefIdx}
 
-pub number_some : (e : Refusal) → 0 < number_of e
+pub number_some : (e : Refusal) → 0 < refusal_number e
 number_some TooLong = omega arith
 number_some BadState = omega arith
 number_some BadWidth = omega arith
@@ -37,7 +37,7 @@ rows =
 abbrev row : ℕ → Refusal
 row n = get_or rows (n - 1) TooLong
 
-row_of : (e : Refusal) → row (number_of e) ≡ e
+row_of : (e : Refusal) → row (refusal_number e) ≡ e
 row_of TooLong = refl
 row_of BadState = refl
 row_of BadWidth = refl
@@ -57,7 +57,7 @@ row_of BadChangeRate = refl
 row_of BadPicSize = refl
 row_of BadNumRefIdx = refl
 
-pub number_one : {e f : Refusal} → number_of e ≡ number_of f → e ≡ f
+pub number_one : {e f : Refusal} → refusal_number e ≡ refusal_number f → e ≡ f
 number_one {e = e} {f = f} q = sym (row_of e) ∙ ap row q ∙ row_of f
 
 -- an answer without a value is fixed by its number
@@ -70,15 +70,16 @@ answered_one (Err e) (Err f) q = ap (λ x. Err x) (number_one q)
 -- and each number of the table is a refusal's: the rows' numbers count up from 1
 abbrev Numbered : ℕ → List Refusal → Type 0
 Numbered k [] = Unit
-Numbered k (e ∷ l) = (number_of e ≡ k) × Numbered (suc k) l
+Numbered k (e ∷ l) = (refusal_number e ≡ k) × Numbered (suc k) l
 
-numbered_at : (k i : ℕ) (l : List Refusal) → Numbered k l → i < length l → number_of (get_or l i TooLong) ≡ k + i
+numbered_at : (k i : ℕ) (l : List Refusal) → Numbered k l → i < length l → refusal_number (get_or l i TooLong) ≡ k + i
 numbered_at k i [] h few = let z : ⊥ = omega arith in absurd z
 numbered_at k zero (e ∷ l) h few = h.0 ∙ omega arith
 numbered_at k (suc i) (e ∷ l) h few = numbered_at (suc k) i l h.1 (omega arith) ∙ omega arith
 
 numbered : Numbered 1 rows
-numbered = (refl, (refl, (refl, (refl, (refl, (refl, (refl, (refl, (refl, (refl, (refl, (refl, (refl, (refl, (refl, (refl, (refl, (refl, tt))))))))))))))))))
+numbered =
+    (refl, (refl, (refl, (refl, (refl, (refl, (refl, (refl, (refl, (refl, (refl, (refl, (refl, (refl, (refl, (refl, (refl, (refl, tt))))))))))))))))))
 
-pub number_every : (n : ℕ) → 0 < n → n ≤ 18 → (e : Refusal) × (number_of e ≡ n)
+pub number_every : (n : ℕ) → 0 < n → n ≤ 18 → (e : Refusal) × (refusal_number e ≡ n)
 number_every n some few = (row n, numbered_at 1 (n - 1) rows numbered (omega arith) ∙ omega arith)

@@ -11,7 +11,7 @@ use mir.Val.{bool_byte}
 use borrow.Rule.Slice.PartMut.{mid_of, put_mid}
 use Rattle.std.specs.Prelude.{Result, Ok, Err, IsOk}
 use Rattle.std.proofs.Common.{rules}
-use Rattle.desk.specs.Refusing.{number_of}
+use Rattle.desk.specs.Refusing.{refusal_number}
 use Rattle.desk.specs.Room.{with_front}
 use Rattle.desk.specs.Push.{Next, Answer, answers, marked, push_of, run, Gives}
 use Rattle.desk.specs.Steps.{released, mark_list, out_of, Runs, pushed_of, Gave}
@@ -93,7 +93,7 @@ module _ {S : Type 0} (next : Next S) (s : S) (chunk room marks : List ℕ) wher
         subst⁻¹ (λ (a : Answer S). Gave a room marks s' room' marks' (Ok p)) (push_runs next entry s chunk (length room) (length marks) (sym e)) r
 
     -- it is refused, and changes nothing
-    pub gave_refused : (why : Refusal) → number_of why ≡ entry → Gave pushing room marks s room marks (Err why)
+    pub gave_refused : (why : Refusal) → refusal_number why ≡ entry → Gave pushing room marks s room marks (Err why)
     gave_refused why e =
         let z = number_some why in
         subst⁻¹ (λ (n : ℕ). Gives pushing room marks room marks n 0 0 0 s) e
@@ -153,7 +153,7 @@ as_result {S} {next} never {entry} s chunk few {room} {marks} {room'} {marks'} {
     number_entry : number ≡ entry
     number_entry = o.number_is ∙ never_7 next never entry s chunk (length room) (length marks)
 
-    nothing : (why : Refusal) → entry ≡ number_of why
+    nothing : (why : Refusal) → entry ≡ refusal_number why
         → (r : Result Pushed Refusal) × Gave (push_of next entry s chunk (length room) (length marks)) room marks s' room' marks' r
         × (pushed_of r ≡ record { taken = taken; written = wrote; marked = marked_n })
     nothing why e =

@@ -8,27 +8,27 @@ use Rattle.desk.specs.declared.refusal.Refusal.TheVariants.{TooLong, BadState, B
 use Rattle.desk.specs.declared.refusal.Refusal.TheVariants.{EmptyNal, NoCode, NoRoom, BadGeometry, BadMapType, BadRunLength, InvalidTopLeft}
 use Rattle.desk.specs.declared.refusal.Refusal.TheVariants.{InvalidBottomRight, BadChangeRate, BadPicSize, BadNumRefIdx}
 
-abbrev pub number_of : Refusal → ℕ
-number_of TooLong = too_long
-number_of BadState = bad_state
-number_of BadWidth = bad_width
-number_of BitsRunOut = bits_run_out
-number_of ExpGolombTooLarge = exp_golomb_too_large
-number_of RemainingData = remaining_data
-number_of ForbiddenByte = forbidden_byte
-number_of EmptyNal = empty_nal
-number_of NoCode = no_code
-number_of NoRoom = no_room
-number_of BadGeometry = bad_geometry
-number_of BadMapType = bad_map_type
-number_of BadRunLength = bad_run_length
-number_of InvalidTopLeft = invalid_top_left
-number_of InvalidBottomRight = invalid_bottom_right
-number_of BadChangeRate = bad_change_rate
-number_of BadPicSize = bad_pic_size
-number_of BadNumRefIdx = bad_num_ref_idx
+abbrev pub refusal_number : Refusal → ℕ
+refusal_number TooLong = too_long
+refusal_number BadState = bad_state
+refusal_number BadWidth = bad_width
+refusal_number BitsRunOut = bits_run_out
+refusal_number ExpGolombTooLarge = exp_golomb_too_large
+refusal_number RemainingData = remaining_data
+refusal_number ForbiddenByte = forbidden_byte
+refusal_number EmptyNal = empty_nal
+refusal_number NoCode = no_code
+refusal_number NoRoom = no_room
+refusal_number BadGeometry = bad_geometry
+refusal_number BadMapType = bad_map_type
+refusal_number BadRunLength = bad_run_length
+refusal_number InvalidTopLeft = invalid_top_left
+refusal_number InvalidBottomRight = invalid_bottom_right
+refusal_number BadChangeRate = bad_change_rate
+refusal_number BadPicSize = bad_pic_size
+refusal_number BadNumRefIdx = bad_num_ref_idx
 
 -- an answer's number: 0, or that of its refusal
 abbrev pub answered : {A : Type 0} → Result A Refusal → ℕ
 answered (Ok a) = done
-answered (Err e) = number_of e
+answered (Err e) = refusal_number e

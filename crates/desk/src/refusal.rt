@@ -1,6 +1,6 @@
 // Why a call is refused: the rows of document 01's table, from 1 on.
 ghost use Rattle.std.specs.Prelude.{◌≡◌};
-ghost use Rattle.desk.specs.Refusing.{number_of, answered};
+ghost use Rattle.desk.specs.Refusing.{refusal_number, answered};
 
 #[derive(Clone, Copy, Debug, PartialEq, Eq)]
 pub enum Refusal {
@@ -31,7 +31,7 @@ pub enum Refusal {
 impl Refusal {
     // By a name, and no `From`: a u8 alone would not say that it is the table's number.
     pub fn number(self) -> u8
-        ensures { result ≡ number_of self }
+        ensures { result ≡ refusal_number self }
     {
         self as u8
     }

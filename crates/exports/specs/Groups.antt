@@ -46,8 +46,7 @@ corners_at rects i rest = (get_or rects i no_rect).top_left ∷ (get_or rects i 
 
 -- the corners of each of the seven rectangles in turn
 abbrev pub corner_numbers : List SliceRect → List ℕ
-corner_numbers rects =
-    corners_at rects 0 (corners_at rects 1 (corners_at rects 2 (corners_at rects 3 (corners_at rects 4 (corners_at rects 5 (corners_at rects 6 []))))))
+corner_numbers rs = corners_at rs 0 (corners_at rs 1 (corners_at rs 2 (corners_at rs 3 (corners_at rs 4 (corners_at rs 5 (corners_at rs 6 []))))))
 
 -- what the three arrays beside the answer hold
 pub record Arrays : Type 0 where

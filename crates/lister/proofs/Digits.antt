@@ -1,5 +1,6 @@
 -- A number in decimal: `places` is the fewest digits that hold it, and the kit's contract leaves no other number of them.
-use Rattle.std.proofs.Common.{◌≡◌, ℕ, zero, suc, ◌-◌, ◌*◌, ◌/◌, ◌^◌, ◌<◌, ◌≤◌, Bool, true, false, ltb, leb, refl, ap, arith, ltb-false, ltb-true, leb-false, leb-true}
+use Rattle.std.proofs.Common.{◌≡◌, ℕ, zero, suc, ◌-◌, ◌*◌, ◌/◌, ◌^◌, ◌<◌, ◌≤◌, Bool, true, false, ltb, leb, refl, ap, arith}
+use Rattle.std.proofs.Common.{ltb-false, ltb-true, leb-false, leb-true}
 use native.Mathlib.Nat.{pow-le-pow_right, pow-succ'}
 use Rattle.desk.proofs.Choice.{cond_by}
 use Rattle.io.specs.Digits.{last_digits, IsDigitCount}

@@ -24,12 +24,12 @@ pub below_is : (limit k : ℕ) (s : List ℕ) (p v q : ℕ) → ue_below limit k
 unfolding ue_below
 below_is limit k s p v q e = go (read_ue s p) refl e
   where
-    test : (u r : ℕ) → read_ue s p ≡ got u r → (b : Bool) → ltb u limit ≡ b → cond b (got u r) (no k) ≡ got v q → (read_ue s p ≡ got v q) × (v < limit)
-    test u r f true l h = let uv : u ≡ v = cc in (f ∙ h, omega (arith, ltb-true u limit l))
-    test u r f false l h = absurd (let z : ◌≡◌ {A = ℕ} 0 1 = cc in omega arith)
+    by : (u r : ℕ) → read_ue s p ≡ got u r → (b : Bool) → ltb u limit ≡ b → cond b (got u r) (no k) ≡ got v q → (read_ue s p ≡ got v q) × (v < limit)
+    by u r f true l h = let uv : u ≡ v = cc in (f ∙ h, omega (arith, ltb-true u limit l))
+    by u r f false l h = absurd (let z : ◌≡◌ {A = ℕ} 0 1 = cc in omega arith)
 
     go : (x : Ans ℕ) → read_ue s p ≡ x → and_then x (λ u r. cond (ltb u limit) (got u r) (no k)) ≡ got v q → (read_ue s p ≡ got v q) × (v < limit)
-    go (got u r) f h = test u r f (ltb u limit) refl h
+    go (got u r) f h = by u r f (ltb u limit) refl h
     go (no j) f h = absurd (let z : ◌≡◌ {A = ℕ} 0 1 = cc in omega arith)
 
 -- ids of up to 8 groups have up to 3 bits

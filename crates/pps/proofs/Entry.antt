@@ -9,7 +9,7 @@ use borrow.Author.Tests.{ltb-false, eqb-false}
 use lib.Dec.{ltb, eqb, lit≤}
 use lib.ListN.{length}
 use Rattle.desk.specs.Numbers.{most, any_over, entry_of, bad_geometry, done}
-use Rattle.desk.specs.Refusing.{number_of, answered}
+use Rattle.desk.specs.Refusing.{refusal_number, answered}
 use Rattle.desk.specs.declared.refusal.Refusal.{Refusal}
 use Rattle.desk.proofs.Entering.{entry_passed, entry_done, entry_long, entry_bad}
 use Rattle.desk.proofs.Refusing.{number_some}
@@ -24,7 +24,7 @@ first_nonzero zero b h = absurd (h refl)
 first_nonzero (suc a) b h = refl
 
 -- 11, by the first of two tests that answer it, or else by the second
-by_first : (a b : Bool) (w : Refusal) → number_of w ≡ cond a bad_geometry done → cond (a || b) bad_geometry done ≡ number_of w
+by_first : (a b : Bool) (w : Refusal) → refusal_number w ≡ cond a bad_geometry done → cond (a || b) bad_geometry done ≡ refusal_number w
 by_first true b w q = sym q
 by_first false b w q = absurd (let n = number_some w in let z : ⊥ = omega arith in z)
 
@@ -36,12 +36,12 @@ by_second false b k z q = sym q
 module _ (s : List ℕ) (p room width size : ℕ) (bad_count : Bool) {past : Bool} (is : past ≡ past_end s p) {r : Result Unit Refusal}
     (e : answered r ≡ entry_of (length s ∷ room ∷ 0 ∷ []) past) where
   -- 1 and 2 come first
-  pub entry_first : {w : Refusal} → r ≡ Err w → entry_for s p room width size bad_count ≡ number_of w
+  pub entry_first : {w : Refusal} → r ≡ Err w → entry_for s p room width size bad_count ≡ refusal_number w
   unfolding entry_for
   entry_first {w} h =
-      let k : number_of w ≡ entry_of (length s ∷ room ∷ 0 ∷ []) past = ap answered (sym h) ∙ e in
+      let k : refusal_number w ≡ entry_of (length s ∷ room ∷ 0 ∷ []) past = ap answered (sym h) ∙ e in
       let n = number_some w in
-      rw (← is, ← k) (first_nonzero (number_of w) _ (λ z. omega arith))
+      rw (← is, ← k) (first_nonzero (refusal_number w) _ (λ z. omega arith))
 
   module _ {u : Unit} (h : r ≡ Ok u) where
     -- and then 11
@@ -49,8 +49,8 @@ module _ (s : List ℕ) (p room width size : ℕ) (bad_count : Bool) {past : Boo
     unfolding entry_for
     entry_then = let k : done ≡ entry_of (length s ∷ room ∷ 0 ∷ []) past = ap answered (sym h) ∙ e in rw (← is, ← k)
 
-    pub entry_picture : (w : Refusal) → number_of w ≡ cond (bad_picture width size) bad_geometry done
-        → entry_for s p room width size bad_count ≡ number_of w
+    pub entry_picture : (w : Refusal) → refusal_number w ≡ cond (bad_picture width size) bad_geometry done
+        → entry_for s p room width size bad_count ≡ refusal_number w
     entry_picture w q = entry_then ∙ by_first (bad_picture width size) bad_count w q
 
     pub entry_count : {k : ℕ} → done ≡ cond (bad_picture width size) bad_geometry done → k ≡ cond bad_count bad_geometry done
@@ -58,8 +58,8 @@ module _ (s : List ℕ) (p room width size : ℕ) (bad_count : Bool) {past : Boo
     entry_count {k} z q = entry_then ∙ by_second (bad_picture width size) bad_count k z q
 
 -- a refusal by them is the answer
-pub refused_at : {A : Type 0} (w : Refusal) {k : ℕ} → k ≡ number_of w → (x : Ans A) → unless no k x ≡ no (number_of w)
-refused_at w {k} e x = let n = number_some w in sym (refused no (number_of w) k (sym e) x (λ z. omega arith))
+pub refused_at : {A : Type 0} (w : Refusal) {k : ℕ} → k ≡ refusal_number w → (x : Ans A) → unless no k x ≡ no (refusal_number w)
+refused_at w {k} e x = let n = number_some w in sym (refused no (refusal_number w) k (sym e) x (λ z. omega arith))
 
 -- ---- what passes them
 

@@ -70,7 +70,7 @@ module _ (b : ℕ) (narrow : b ≤ 32) where
   ids_there zero s p k g h e = let z : ◌≡◌ {A = ℕ} 0 1 = cc in omega arith
   ids_there (suc count) s p k g h e = go (read_bits s p b) refl e (ids_there count s)
     where
-      go : (x : Ans ℕ) → read_bits s p b ≡ x → and_then x (λ a q. and_then (row (λ s p. read_bits s p b) count s q) (λ rest r. got (a ∷ rest) r)) ≡ no k
+      go : (x : Ans ℕ) → read_bits s p b ≡ x → and_then x (λ a q. and_then (row (λ s p. read_bits s p b) count s q) (λ l r. got (a ∷ l) r)) ≡ no k
           → ((q j : ℕ) → Entered s q → q + count * b ≤ size s → row (λ s p. read_bits s p b) count s q ≡ no j → ⊥) → ⊥
       go (got v q) f r ih =
           let end = bits_end s p v q f in

@@ -9,7 +9,7 @@ use borrow.Author.Tests.{lt-ltb, le-ltb, ne_eqb, le-leb, lt-leb}
 use lib.ListN.{length, take, drop}
 use lib.Seq.{length-take-le}
 use Rattle.desk.specs.Numbers.{bad_run_length, bad_change_rate, bad_pic_size}
-use Rattle.desk.specs.Refusing.{number_of}
+use Rattle.desk.specs.Refusing.{refusal_number}
 use Rattle.desk.specs.Room.{with_front}
 use Rattle.desk.specs.declared.refusal.Refusal.{Refusal}
 use Rattle.desk.specs.declared.refusal.Refusal.TheVariants.{NoRoom}
@@ -35,7 +35,7 @@ use Rattle.pps.proofs.Below.{IdsKnown, ids_known}
 use Rattle.pps.proofs.Entry.{refused_at}
 
 -- what is refused before an id is written
-refused_part : {from after : FieldReader} {n : ℕ} {ids : List ℕ} {a : Ans Fields} (e : Refusal) → after.s.now ≡ from.s.now → a ≡ no (number_of e)
+refused_part : {from after : FieldReader} {n : ℕ} {ids : List ℕ} {a : Ans Fields} (e : Refusal) → after.s.now ≡ from.s.now → a ≡ no (refusal_number e)
     → PartGiven from after n a ids (Err e) ids
 unfolding with_front
 refused_part e same is = record { read = record { same = same; answers = rw is refl }; memory = rw is refl }
@@ -108,7 +108,7 @@ module _ (from mid : FieldReader) (n units : ℕ) (ids : List ℕ) {r : Result �
       pub ids_few : {e : Refusal} → x ≡ Err e → Ids mid (Err e) ids
       unfolding group_ids
       ids_few {e} k =
-          let why = short (skip_refused s q ((m + 1) * b) (number_of e) (skips k)) in
+          let why = short (skip_refused s q ((m + 1) * b) (refusal_number e) (skips k)) in
           let none : row (group_id n) (m + 1) s q ≡ no 4 =
           ids_short (id_bits n) narrow (m + 1) s q known.entered (subst (λ (w : ℕ). size s < q + (m + 1) * w) eb why.1) in
           refused_part e first.same (rw (field_is first is, none) (ap (λ (j : ℕ). no j) (sym why.0)))
@@ -237,7 +237,7 @@ module _ (from : FieldReader) (n w z : ℕ) (ids : List ℕ) {at : BitReader} {x
 -- ---- the calls: what the entry checks refuse, and a read that they let through
 
 module _ (s : List ℕ) (from : BitReader) (width size : ℕ) where
-  pub rect_refused : (e : Refusal) → entry_for s from.at.0 0 width size false ≡ number_of e
+  pub rect_refused : (e : Refusal) → entry_for s from.at.0 0 width size false ≡ refusal_number e
       → Reads from from (Err e) (rect_of s from.at.0 width size)
   unfolding rect_of
   rect_refused e h = refuses (refused_at e h (rectangle width size s from.at.0))
@@ -251,10 +251,10 @@ module _ (s : List ℕ) (from : BitReader) (n : ℕ) (g : Geometry) (ids : List 
   abbrev entry : ℕ
   entry = entry_for s from.at.0 (length ids) g.pic_width_in_mbs g.pic_size_in_map_units (bad_group_count n)
 
-  pub groups_refused : (e : Refusal) → entry ≡ number_of e → ReadsGroups s from n g ids from (Err e) ids
+  pub groups_refused : (e : Refusal) → entry ≡ refusal_number e → ReadsGroups s from n g ids from (Err e) ids
   unfolding groups_of with_front
   groups_refused e h =
-      let whole : groups_of s from.at.0 n g.pic_width_in_mbs g.pic_size_in_map_units (length ids) ≡ no (number_of e) = refused_at e h _ in
+      let whole : groups_of s from.at.0 n g.pic_width_in_mbs g.pic_size_in_map_units (length ids) ≡ no (refusal_number e) = refused_at e h _ in
       record { read = refuses (ap (result_of n) whole); memory = rw whole refl }
 
   -- a read that is let through: the reader stands behind it where it is not refused, and the ids are as the table leaves them

@@ -8,7 +8,7 @@ use native.Mathlib.Numerals.{add-one}
 use lib.ListN.{length, take, set, length-set}
 use lib.Seq.{take-suc-set}
 use Rattle.std.proofs.lemmas.List.{take_all}
-use Rattle.desk.specs.Refusing.{number_of}
+use Rattle.desk.specs.Refusing.{refusal_number}
 use Rattle.desk.specs.declared.refusal.Refusal.{Refusal}
 use Rattle.bits.specs.Reading.{Ans, got, no, and_then, answer}
 use Rattle.pps.specs.declared.fields.FieldReader.{FieldReader}
@@ -55,9 +55,9 @@ module _ {A : Type 0} (field : List ℕ → ℕ → Ans A) (from : FieldReader) 
         }
 
     pub row_stops : {after : FieldReader} {r : Result A Refusal} {e : Refusal} → i < count → ReadsField at after r (field at.s.now at.at.at.0)
-        → r ≡ Err e → whole ≡ no (number_of e)
+        → r ≡ Err e → whole ≡ no (refusal_number e)
     row_stops {after} {r} {e} h read is =
-        let one : row field (count - i) s at.at.at.0 ≡ no (number_of e) = rw (step i at.at.at.0 h) (simp (next_is read is)) in
+        let one : row field (count - i) s at.at.at.0 ≡ no (refusal_number e) = rw (step i at.at.at.0 h) (simp (next_is read is)) in
         so.left ∙ ap (before (take i xs)) one
 
     -- at the end

@@ -1,5 +1,5 @@
 // Fields, read one behind another.
-ghost use Rattle.desk.specs.Refusing.{number_of};
+ghost use Rattle.desk.specs.Refusing.{refusal_number};
 ghost use Rattle.pps.specs.Rule.{ue_below};
 ghost use Rattle.pps.specs.Step.{ReadsField};
 
@@ -19,7 +19,7 @@ impl FieldReader<'_> {
     // ue(v) of less than the limit, or the refusal.
     #[tactic(auto, unfolding(crate::specs::Rule::ue_below))]
     pub(crate) fn ue_below(&mut self, limit: u32, over: Refusal) -> Result<u32, Refusal>
-        ensures { ReadsField self.old self.new result (ue_below limit (number_of over) self.old.s.now self.old.at.at.0) }
+        ensures { ReadsField self.old self.new result (ue_below limit (refusal_number over) self.old.s.now self.old.at.at.0) }
     {
         let field = self.at.read_ue(self.s);
         let Ok(value) = field else {

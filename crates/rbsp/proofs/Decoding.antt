@@ -19,7 +19,7 @@ use Rattle.desk.specs.Numbers.{most, any_over, entry_of}
 use Rattle.desk.specs.Steps.{released, out_of, step_out}
 use Rattle.desk.specs.declared.push.Step.{Step}
 use Rattle.desk.specs.Push.{Out, Answer, Seen, push_of, push_by, Gives, Pushes}
-use Rattle.desk.specs.Refusing.{number_of as number_of_refusal, answered}
+use Rattle.desk.specs.Refusing.{refusal_number, answered}
 use Rattle.desk.specs.Room.{with_front}
 use Rattle.desk.specs.Search.{is3, stands, first, trail}
 use Rattle.desk.specs.Zeros.{two}
@@ -201,7 +201,7 @@ module _ (nal room : List ℕ) (r : Result Unit Refusal) (e : answered r ≡ ent
       let n = rw m.1 at e in
       rw m.2 (long (any_over (length nal ∷ length room ∷ [])) refl m.0 n)
     where
-      long : (c : Bool) → any_over (length nal ∷ length room ∷ []) ≡ c → (x : Refusal) → number_of_refusal x ≡ cond c 1 0
+      long : (c : Bool) → any_over (length nal ∷ length room ∷ []) ≡ c → (x : Refusal) → refusal_number x ≡ cond c 1 0
           → Decodes nal room room (Err TooLong)
       long true o x n = alone nal room (Err TooLong) 1 none (rw o) refl refl
       long false o x n = let z = number_some x in absurd (omega arith)

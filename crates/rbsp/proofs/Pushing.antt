@@ -9,7 +9,7 @@ use lib.ListN.{length}
 use Rattle.std.specs.Prelude.{Result, Ok, Err, IsOk}
 use Rattle.std.proofs.Common.{rules}
 use Rattle.desk.specs.Push.{Out, Next, Answer, answers, run, push_of, Gives}
-use Rattle.desk.specs.Refusing.{number_of}
+use Rattle.desk.specs.Refusing.{refusal_number}
 use Rattle.desk.specs.Steps.{Runs}
 use Rattle.desk.specs.declared.push.Pushed.{Pushed}
 use Rattle.desk.specs.declared.refusal.Refusal.{Refusal}
@@ -40,13 +40,13 @@ module _ (s : ParseState) (chunk out : List ℕ) where
   abbrev entered : ℕ
   entered = read_entry s (length chunk) (length out) 0
 
-  pub read_refused : (e : Refusal) → number_of e ≡ entered → ReadPush s s chunk out out (Err (Refused e))
+  pub read_refused : (e : Refusal) → refusal_number e ≡ entered → ReadPush s s chunk out out (Err (Refused e))
   read_refused e q =
       record {
         gives = gave_refused read_step s chunk out [] entered e q;
         delivers = λ z.
             let same : e ≡ ForbiddenByte = cc in
-            let seven : number_of e ≡ 7 = ap number_of same in
+            let seven : refusal_number e ≡ 7 = ap refusal_number same in
             let few = entry_few (length chunk ∷ length out ∷ 0 ∷ []) (bad_reader s) in
             omega arith;
       }
@@ -104,7 +104,7 @@ module _ (s : ByteWriter) (chunk out : List ℕ) where
   abbrev written : ℕ
   written = write_entry s (length chunk) (length out) 0
 
-  pub write_refused : (e : Refusal) → number_of e ≡ written → WritePush s s chunk out out (Err e)
+  pub write_refused : (e : Refusal) → refusal_number e ≡ written → WritePush s s chunk out out (Err e)
   write_refused e q = gave_refused write_step s chunk out [] written e q
 
   module _ (s' : ByteWriter) (out' marks' : List ℕ) where

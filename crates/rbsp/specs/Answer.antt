@@ -3,7 +3,7 @@ use Rattle.std.specs.Prelude.{ℕ, suc, ◌≤◌, ◌<◌, ◌≡◌, cond, Lis
 use Rattle.std.proofs.Math.Option.{Option, none, some}
 use Rattle.desk.specs.Numbers.{most, done, too_long, forbidden_byte, empty_nal, no_room, any_over}
 use Rattle.desk.specs.Push.{Answer, push_by, Gives}
-use Rattle.desk.specs.Refusing.{number_of as refusal_number}
+use Rattle.desk.specs.Refusing.{refusal_number}
 use Rattle.desk.specs.Room.{with_front}
 use Rattle.desk.specs.Search.{is3, first}
 use Rattle.desk.specs.Steps.{Gave}
