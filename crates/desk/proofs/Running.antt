@@ -25,7 +25,7 @@ use Rattle.desk.proofs.Room.{with_front_none}
 use Rattle.desk.proofs.Taking.{push_refused, never_7}
 
 -- so many bytes are released
-released_count : (lead n b : ℕ) → length (released lead n b) ≡ n
+pub released_count : (lead n b : ℕ) → length (released lead n b) ≡ n
 released_count lead zero b = refl
 released_count lead (suc n) b = simp (length-append, length-replicate) (omega arith)
 

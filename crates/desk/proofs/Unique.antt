@@ -1,15 +1,18 @@
 -- ONE OUTCOME: what a call's contract says leaves one.
 use Prim.Native.Nat.{ℕ}
-use mathlib.Core.Path.{◌≡◌, ap, sym, ◌∙◌}
+use mathlib.Core.Path.{◌≡◌, refl, ap, sym, ◌∙◌}
+use lib.ListN.{length}
 use mathlib.Core.List.{List}
 use native.Mathlib.Omega.{arith}
-use Rattle.std.specs.Prelude.{Result, Ok, Err}
-use Rattle.desk.specs.Push.{Answer, Gives}
+use Rattle.std.specs.Prelude.{Result, Ok, Err, Option, Some, None}
+use Rattle.desk.specs.Push.{Out, Answer, Gives}
 use Rattle.desk.specs.Refusing.{answered}
-use Rattle.desk.specs.Steps.{pushed_of, Gave}
+use Rattle.desk.specs.Steps.{pushed_of, Gave, Ran, out_of, step_out}
 use Rattle.desk.specs.declared.push.Pushed.{Pushed}
+use Rattle.desk.specs.declared.push.Step.{Step}
 use Rattle.desk.specs.declared.refusal.Refusal.{Refusal}
 use Rattle.desk.proofs.Refusing.{number_some, number_one}
+use Rattle.desk.proofs.Running.{released_count}
 
 -- two outcomes that meet one contract
 pub record Same {S : Type 0} (out₁ out₂ marks₁ marks₂ : List ℕ) (number₁ number₂ taken₁ taken₂ wrote₁ wrote₂ marked₁ marked₂ : ℕ)
@@ -53,3 +56,27 @@ one_gave {r₁ = r₁} {r₂ = r₂} p q =
       same.out,
       same.marks,
     )
+
+-- of a run, which forbids or not
+pub one_run : {S : Type 0} (a : Answer S) (room marks : List ℕ) (s₁ s₂ : S) (room₁ room₂ marks₁ marks₂ : List ℕ) (r₁ r₂ : Result Pushed Pushed)
+    → Ran a room marks s₁ room₁ marks₁ r₁ → Ran a room marks s₂ room₂ marks₂ r₂ → (r₁ ≡ r₂) × (s₁ ≡ s₂) × (room₁ ≡ room₂) × (marks₁ ≡ marks₂)
+one_run a room marks s₁ s₂ room₁ room₂ marks₁ marks₂ (Ok p) (Ok q) f g =
+    let same = one_outcome f g in
+    (λ i. Ok (record { taken = same.taken i; written = same.wrote i; marked = same.marked i }), same.state, same.out, same.marks)
+one_run a room marks s₁ s₂ room₁ room₂ marks₁ marks₂ (Ok p) (Err q) f g =
+    absurd (let same = one_outcome f g in let x : ◌≡◌ {A = ℕ} 0 7 = same.number in let y : ⊥ = omega arith in y)
+one_run a room marks s₁ s₂ room₁ room₂ marks₁ marks₂ (Err p) (Ok q) f g =
+    absurd (let same = one_outcome f g in let x : ◌≡◌ {A = ℕ} 7 0 = same.number in let y : ⊥ = omega arith in y)
+one_run a room marks s₁ s₂ room₁ room₂ marks₁ marks₂ (Err p) (Err q) f g =
+    let same = one_outcome f g in
+    (λ i. Err (record { taken = same.taken i; written = same.wrote i; marked = same.marked i }), same.state, same.out, same.marks)
+
+-- and of a step: what it says of the byte fixes its answer
+pub one_step : {S : Type 0} (lead b : ℕ) (r r' : Option (Step S)) → step_out lead b r ≡ step_out lead b r' → r ≡ r'
+one_step lead b None None q = refl
+one_step lead b None (Some d) q = cc
+one_step lead b (Some d) None q = cc
+one_step lead b (Some d) (Some d') q =
+    let o : out_of lead b d ≡ out_of lead b d' = cc in
+    let n : d.count ≡ d'.count = sym (released_count lead d.count b) ∙ ap (λ (x : Out _). length x.bytes) o ∙ released_count lead d'.count b in
+    λ i. Some (record { after = ap (λ (x : Out _). x.after) o i; count = n i; ends = ap (λ (x : Out _). x.mark) o i })
