@@ -90,6 +90,14 @@ impl AnnexBReader {
         ensures { FrameReset self.old room.old marks.old self.new room.new marks.new result }
     {
         desk::entry(0, room.len(), marks.len(), self.zeros > 2)?;
+        if !self.in_unit {
+            *self = AnnexBReader::new();
+            return Ok(Pushed {
+                taken: 0,
+                written: 0,
+                marked: 0,
+            });
+        }
         let held = self.held();
         let ends = usize::from(self.in_unit);
         if held > room.len() || ends > marks.len() {

@@ -5,9 +5,11 @@ use mathlib.Core.Path.{◌≡◌, refl, ap, sym, ◌∙◌, subst, subst⁻¹}
 use mathlib.Core.Bool.{Bool, true, false}
 use mathlib.Core.List.{List}
 use mathlib.Core.Option.{none, some}
+use lib.Dec.{ltb}
 use lib.ListN.{length, take, get_or, length-append, length-replicate}
 use lib.Seq.{length-take-le}
 use mir.Val.{bool_byte}
+use borrow.Author.Tests.{ltb-true, ltb-false}
 use borrow.Rule.Slice.PartMut.{mid_of, put_mid}
 use Rattle.std.specs.Prelude.{Result, Ok, Err, IsOk}
 use Rattle.std.proofs.Common.{rules}
@@ -70,6 +72,13 @@ module _ {S : Type 0} {next : Next S} {chunk out₀ marks₀ : List ℕ} {s₀ :
         (wrote w d.count (released lead d.count byte) out part g.out_few ho n eo)
         (wrote m ends (marked d.ends (take w out)) marks mpart g.marks_few hm (marks_count ee)
         (em ∙ ap (with_front (mid_of m (length marks - m) marks)) marks_are))
+
+    -- what `lacks_mark` tells, of the count of marks
+    pub mark_fits : {ends : ℕ} → ends ≡ bool_byte d.ends → ltb (length marks - m) (length (mark_list d.ends 0)) ≡ false → ends ≤ length marks - m
+    mark_fits e q = omega (arith, ltb-false (length marks - m) (length (mark_list d.ends 0)) q, mark_count d.ends 0, e)
+
+    pub mark_lacks : ltb (length marks - m) (length (mark_list d.ends 0)) ≡ true → length marks - m < bool_byte d.ends
+    mark_lacks q = omega (arith, ltb-true (length marks - m) (length (mark_list d.ends 0)) q, mark_count d.ends 0)
 
     -- what it releases does not fit, or its mark
     pub runs_full : length out - w < d.count → Stops 0

@@ -1,5 +1,5 @@
 // One push for every reader and writer: what one byte does is theirs, by a trait.
-ghost use Rattle.std.specs.Prelude.{◌≡◌, ℕ, ◌≤◌, length};
+ghost use Rattle.std.specs.Prelude.{◌≡◌, ℕ, ◌≤◌, length, ltb};
 ghost use Rattle.desk.specs.Push.{Next};
 ghost use Rattle.desk.specs.Room.{with_front};
 ghost use Rattle.desk.specs.Steps.{released, step_out, mark_list, Runs};
@@ -39,9 +39,13 @@ fn put(room: &mut [u8], lead: u8, count: usize, b: u8)
     requires { count ≤ length room.old }
     ensures { room.new ≡ with_front room.old (released lead count b) }
 {
-    if count > 0 {
-        room[..count - 1].fill(lead);
-        room[count - 1] = b;
+    match count {
+        0 => {}
+        1 => room[0] = b,
+        _ => {
+            room[..count - 1].fill(lead);
+            room[count - 1] = b;
+        }
     }
 }
 
@@ -53,6 +57,13 @@ fn put_mark(room: &mut [u64], ends: bool, mark: u64)
     if ends {
         room[0] = mark;
     }
+}
+
+// Is there a mark, and no room for it? Asked of the flag, and not of a count of marks, since most bytes end no unit.
+fn lacks_mark(ends: bool, left: usize) -> bool
+    ensures { result ≡ ltb left (length (mark_list ends 0)) }
+{
+    ends && left == 0
 }
 
 // Takes bytes while all that the next one releases fits. Err: the next one is forbidden. A mark is the count of bytes written before a unit's end.
@@ -73,8 +84,8 @@ pub fn run<S: Steps>(
         let Some(step) = state.step(b) else {
             return Err(pushed);
         };
-        let ends = usize::from(step.ends);
-        if step.count > room.len() - pushed.written || ends > marks.len() - pushed.marked {
+        let left = marks.len() - pushed.marked;
+        if step.count > room.len() - pushed.written || lacks_mark(step.ends, left) {
             break;
         }
         let mark = pushed.written as u64;
@@ -84,7 +95,7 @@ pub fn run<S: Steps>(
         // By hand: the three counts are the answer, and the loop may stop before the chunk does.
         pushed.taken += 1;
         pushed.written += step.count;
-        pushed.marked += ends;
+        pushed.marked += usize::from(step.ends);
     }
     Ok(pushed)
 }

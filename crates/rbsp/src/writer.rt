@@ -21,13 +21,14 @@ impl Steps for ByteWriter {
 
     // Rec 7.4.1: behind two zeros a 03 goes before 00, 01, 02 and 03. Zeros count anew behind it.
     fn step(self, b: u8) -> Option<Step<ByteWriter>> {
-        let stuffed = self.zero_count >= 2 && b <= 3;
-        let zeros = if stuffed { 0 } else { self.zero_count };
+        let (zero_count, count) = match (self.zero_count, b) {
+            (_, 4..) => (0, 1),
+            (2.., _) => (desk::zeros_after(0, b), 2),
+            (zeros, _) => (desk::zeros_after(zeros, b), 1),
+        };
         Some(Step {
-            after: ByteWriter {
-                zero_count: desk::zeros_after(zeros, b),
-            },
-            count: 1 + usize::from(stuffed),
+            after: ByteWriter { zero_count },
+            count,
             ends: false,
         })
     }
