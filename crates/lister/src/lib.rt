@@ -30,12 +30,12 @@ struct Progress {
     tally: Tally,
 }
 
-// A listing under way, and the memory for one call of the reader: what it gives, its marks, and the lines of the units that it ends.
+// A listing under way, and the memory for one call of the reader: its marks, and the lines of the units that it ends. The room for what it gives is
+// lent apart from these: nothing here reads it, so a compiler that sees it by itself keeps none of it.
 #[derive(Drop)]
 struct Listing {
     system: System,
     progress: Progress,
-    room: [u8; ROOM],
     marks: [u64; MARKS],
     text: Text,
     // The reader's state is no bad one.
@@ -58,7 +58,6 @@ impl Listing {
                 reader: AnnexBReader::new(),
                 tally: Tally::new(),
             },
-            room: [0; ROOM],
             marks: [0; MARKS],
             text: Text::new(),
         }
@@ -83,7 +82,7 @@ impl Listing {
 
     // Lists the units that end in the front of a chunk that one push takes: their lines go out at once. Lent three bytes and a mark, a push takes
     // one byte at least. What it is lent is short enough, so it is not refused.
-    fn list_some(&mut self, chunk: &[u8]) -> Result<usize, Failure>
+    fn list_some(&mut self, chunk: &[u8], room: &mut [u8; ROOM]) -> Result<usize, Failure>
         requires in_bounds { 1 ≤ length chunk.now }
         requires few { length chunk.now ≤ most }
         ensures some_listed { SomeListed chunk.now self.old.system.sent self.old.progress result self.new.system.sent self.new.progress }
@@ -92,7 +91,7 @@ impl Listing {
         let called = self
             .progress
             .reader
-            .push(chunk, &mut self.room, &mut self.marks)
+            .push(chunk, room, &mut self.marks)
             .unwrap();
         self.tell(called);
         self.system.hand_out(&self.text)?;
@@ -100,7 +99,7 @@ impl Listing {
     }
 
     // Lists the units that end in a chunk: all of it is taken, unless a write fails.
-    fn list_chunk(&mut self, chunk: &[u8]) -> Result<(), Failure>
+    fn list_chunk(&mut self, chunk: &[u8], room: &mut [u8; ROOM]) -> Result<(), Failure>
         requires { length chunk.now ≤ most }
         ensures chunk_listed { ChunkListed chunk.now self.old.system.sent self.old.progress result self.new.system.sent self.new.progress }
         ensures read { self.new.system.read ≡ self.old.system.read }
@@ -108,23 +107,19 @@ impl Listing {
         let mut rest = chunk;
         // No `for`: how long a piece is, only the push that takes it tells.
         while !rest.is_empty() {
-            let taken = self.list_some(rest)?;
+            let taken = self.list_some(rest, room)?;
             rest = &rest[taken..];
         }
         Ok(())
     }
 
     // The end of the input: a reset ends the open unit, and its line and the total are told. What it gives fits, so it is not refused.
-    fn finish(&mut self) -> Result<(), Failure>
+    fn finish(&mut self, room: &mut [u8; ROOM]) -> Result<(), Failure>
         ensures finishes { Finishes self.old.system.sent self.old.progress self.new.system.sent }
         ensures failed { IfErr result (λ e. e ≡ Failure.Write) }
         ensures read { self.new.system.read ≡ self.old.system.read }
     {
-        let called = self
-            .progress
-            .reader
-            .reset(&mut self.room, &mut self.marks)
-            .unwrap();
+        let called = self.progress.reader.reset(room, &mut self.marks).unwrap();
         self.tell(called);
         text::total_line(&mut self.text, self.progress.tally.units);
         self.system.hand_out(&self.text)
@@ -137,12 +132,13 @@ impl Listing {
         ensures { ListingCameTo self.new.system.read self.new.system.sent result }
     {
         let mut chunk = [0; ROOM];
+        let mut room = [0; ROOM];
         for _ in 0..u64::MAX {
             let n = self.system.take_in(&mut chunk)?;
             if n == 0 {
-                return self.finish();
+                return self.finish(&mut room);
             }
-            self.list_chunk(&chunk[..n])?;
+            self.list_chunk(&chunk[..n], &mut room)?;
         }
         Err(Failure::Read)
     }

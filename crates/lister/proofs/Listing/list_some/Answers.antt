@@ -12,13 +12,13 @@ use Rattle.lister.proofs.Listing.list_some.Goals.{After-hand_out}
 pub unwrap-called-requires : goal.unwrap-called-requires
 unwrap-called-requires c =
     let m = c.args.self.now in
-    let done = push_passes m.progress.reader (length m.room) (length m.marks) m.good (omega arith) (omega arith) c.args.chunk.now c.requires.few in
+    let done = push_passes m.progress.reader (length c.args.room.now) (length m.marks) m.good (omega arith) (omega arith) c.args.chunk.now c.requires.few in
     not_refused c.push.result (c.push.ensures.number_is ∙ done)
 
 pub invariant_of-self : goal.invariant_of-self
 invariant_of-self c =
     let m = c.args.self.now in
-    record { good = push_few m.progress.reader c.args.chunk.now m.room m.marks _ _ _ _ m.good c.push.ensures }
+    record { good = push_few m.progress.reader c.args.chunk.now c.args.room.now m.marks _ _ _ _ m.good c.push.ensures }
 
 pub tell-requires : goal.tell-requires
 tell-requires c = omega (arith, gave_marks_fit (rw c.unwrap-called.ensures at c.push.ensures), c.push.auto.marks)
@@ -29,7 +29,7 @@ came_to : (c : After-hand_out) (r : Result ℕ Failure) → MatchResult r (λ n.
 came_to c r =
     let m = c.args.self.now in
     let t = c.tell.ensures in
-    some_listed m.progress c.tell.new.self.progress m.room m.marks t.tallied c.args.chunk.now m.good (omega arith) (omega arith) c.requires.in_bounds
+    some_listed m.progress c.tell.new.self.progress c.args.room.now m.marks t.tallied c.args.chunk.now m.good (omega arith) (omega arith) c.requires.in_bounds
     c.requires.few (rw (c.unwrap-called.ensures, sym t.reader) at c.push.ensures) (c.deref.ensures.0 ∙ t.text)
     (rw t.system at c.hand_out.ensures.handed_out.handed)
 
