@@ -10,17 +10,29 @@ use super::golomb::{prefix_len, unsigned_of};
 use super::{BitWriter, BytePos};
 use desk::Refusal;
 
-// The k low bytes of y, from a place on. There are mostly none, and a copy of none would cost a call. The place and the count stand beside the room,
-// since the rule speaks of all of it.
+// The K low bytes of y, from a place on. So many that the compiler knows, since a copy of as many as only a run tells is a call, and of a name that the
+// archive for C would need from outside.
+fn low_bytes<const K: usize>(out: &mut [u8], at: BytePos, y: u64)
+    requires { (at.0 + K ≤ length out.old) × (K ≤ 8) × (length out.old ≤ most) }
+    ensures { out.new ≡ filled out.old at.0 K y }
+{
+    let bytes = y.to_be_bytes();
+    out[at.0..at.0 + K].copy_from_slice(&bytes[8 - K..]);
+}
+
+// The k low bytes of y, from a place on. The place and the count stand beside the room, since the rule speaks of all of it.
 fn fill(out: &mut [u8], at: BytePos, k: usize, y: u64)
     requires { (at.0 + k ≤ length out.old) × (k ≤ 5) × (length out.old ≤ most) }
     ensures { out.new ≡ filled out.old at.0 k y }
 {
-    if k == 0 {
-        return;
+    match k {
+        0 => {}
+        1 => low_bytes::<1>(out, at, y),
+        2 => low_bytes::<2>(out, at, y),
+        3 => low_bytes::<3>(out, at, y),
+        4 => low_bytes::<4>(out, at, y),
+        _ => low_bytes::<5>(out, at, y),
     }
-    let bytes = y.to_be_bytes();
-    out[at.0..at.0 + k].copy_from_slice(&bytes[8 - k..]);
 }
 
 impl BitWriter {
