@@ -6,7 +6,7 @@ use Rattle.desk.specs.Refusing.{refusal_number, answered}
 use Rattle.desk.specs.declared.refusal.Refusal.{Refusal}
 use Rattle.desk.proofs.Refusing.{number_one, number_every}
 use Rattle.bits.specs.Step.{Wrote, wrote, kept}
-use Rattle.bits.specs.Answer.{Ans, got, no, denied, reader_at, answer, told_by, told_of, number, told_number, reader_back, Reads}
+use Rattle.bits.specs.Answer.{Ans, got, no, Told, told, denied, reader_at, answer, told_by, told_of, number, told_number, reader_back, Reads}
 use Rattle.bits.specs.Answer.{aligned_answer, aligned_back, outcome, wrote_told, wrote_number, writer_back, room_back, Writes}
 use Rattle.bits.specs.declared.BitReader.{BitReader}
 use Rattle.bits.specs.declared.BitWriter.{BitWriter}
@@ -22,6 +22,16 @@ told_one (Err e) (Err f) q = let n : refusal_number e ≡ refusal_number f = cc 
 pub told_is_number : {A : Type 0} (r : Result A Refusal) → answered r ≡ told_number (told_by r)
 told_is_number (Ok a) = refl
 told_is_number (Err e) = refl
+
+-- a number that a question is denied by is of the table
+abbrev pub ToldInTable : {A : Type 0} → Told A → Type 0
+ToldInTable (told a) = Unit
+ToldInTable (denied n) = (0 < n) × (n ≤ 18)
+
+-- and each answer of a value, or of a number of the table, is one that some call gives
+pub told_some : {A : Type 0} (t : Told A) → ToldInTable t → (r : Result A Refusal) × (told_by r ≡ t)
+told_some (told a) h = (Ok a, refl)
+told_some (denied n) h = let e = number_every n h.0 h.1 in (Err e.0, ap (λ (x : ℕ). denied x) e.1)
 
 -- ---- reading
 

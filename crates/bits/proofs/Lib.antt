@@ -1,5 +1,6 @@
 -- Laws.
 pub mod Back
+pub mod Table
 pub mod Value
 pub mod Trailing
 pub mod Ones

@@ -6,6 +6,7 @@ pub mod Entry
 pub mod Results
 pub mod Local
 pub mod Back
+pub mod Table
 pub mod Sheets
 pub mod Reach
 pub mod Codes
