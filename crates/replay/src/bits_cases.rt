@@ -1,5 +1,5 @@
 // Calls 4 to 16: reads at a place, and writes by a writer with some bits pending.
-use super::case::{Case, MOST};
+use super::case::{Case, Lent};
 use bits::{BitReader, BitWriter, BytePos};
 use desk::Refusal;
 
@@ -32,24 +32,24 @@ pub(crate) fn more_right(case: Case) -> bool {
 }
 
 // A write: the whole bytes, and behind a write that is done the pending bits.
-pub(crate) fn write_right<F>(case: Case, write: F) -> bool
+pub(crate) fn write_right<F>(case: Case, lent: &mut Lent, write: F) -> bool
 where
     F: FnOnce(&mut BitWriter, &mut [u8]) -> Result<(), Refusal>,
     requires { F.IsAlwaysCallable write }
 {
-    let mut room = [0; MOST];
+    let room = lent.room(case.output);
     let mut writer = BitWriter {
         written: BytePos(0),
         pending: (case.b % 256) as u8,
         count: (case.a % 256) as u8,
     };
-    let answer = write(&mut writer, &mut room);
-    let output = match answer {
-        Ok(()) => room.get(..writer.written.0).unwrap_or_default(),
-        Err(_) => &[],
+    let answer = write(&mut writer, room);
+    let written = match answer {
+        Ok(()) => writer.written.0,
+        Err(_) => 0,
     };
     case.numbered(&answer)
-        && output == case.output
+        && room.get(..written) == Some(case.output)
         && (answer.is_err()
             || u32::from(writer.pending) == case.y && u32::from(writer.count) == case.z)
 }

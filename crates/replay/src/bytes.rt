@@ -28,6 +28,12 @@ pub(crate) fn words<const N: usize>(s: &[u8]) -> [u32; N]
     numbers(s).map(u32::from_be_bytes)
 }
 
+// The first number of 16 bits.
+pub(crate) fn half(s: &[u8]) -> u16 {
+    let [half] = numbers::<2, 1>(s);
+    u16::from_be_bytes(half)
+}
+
 // The first byte.
 pub(crate) fn byte(s: &[u8]) -> u32 {
     s.first().copied().map_or(0, u32::from)

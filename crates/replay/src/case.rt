@@ -95,6 +95,46 @@ impl Case<'_> {
     }
 }
 
+// How many marks a framing call is lent.
+const MARKS: usize = 512;
+
+// What is lent to the calls, for all cases of a file.
+#[derive(Drop)]
+pub(crate) struct Lent {
+    room: [u8; MOST],
+    marks: [u64; MARKS],
+}
+
+impl Lent {
+    pub(crate) fn new() -> Lent {
+        Lent {
+            room: [0; MOST],
+            marks: [0; MARKS],
+        }
+    }
+
+    // The room. No byte of it is the one that is to come there, so that what a call leaves unwritten is a difference.
+    pub(crate) fn room(&mut self, output: &[u8]) -> &mut [u8; MOST] {
+        for (byte, recorded) in self.room.iter_mut().zip(output) {
+            *byte = !*recorded;
+        }
+        &mut self.room
+    }
+
+    // The room and the marks, of which so many are to come, and none is there: an end lies behind what was given before.
+    pub(crate) fn room_and_marks(
+        &mut self,
+        output: &[u8],
+        ends: usize,
+    ) -> (&mut [u8; MOST], &mut [u64; MARKS]) {
+        for mark in self.marks.iter_mut().take(ends) {
+            *mark = u64::MAX;
+        }
+        self.room(output);
+        (&mut self.room, &mut self.marks)
+    }
+}
+
 // A case that the file cuts short, or whose head asks for more than MOST bytes.
 #[derive(Clone, Copy)]
 pub(crate) struct Broken;

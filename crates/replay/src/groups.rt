@@ -1,6 +1,6 @@
 // Calls 17 and 18: slice groups, and a rectangle. The words are the recorded file's; those of `exports`, near them, are the C interface's.
 use super::bytes::{cut, words};
-use super::case::{Case, MOST};
+use super::case::{Case, Lent};
 use pps::{Geometry, SliceGroup, SliceGroups, SliceRect};
 
 fn geometry(case: Case) -> Geometry {
@@ -54,11 +54,11 @@ fn recorded(groups: SliceGroups, output: &[u8]) -> bool {
         && groups.rectangles.map(corners).as_flattened() == words::<14>(rects).as_slice()
 }
 
-pub(crate) fn groups_right(case: Case) -> bool {
-    let mut room = [0; MOST];
-    let mut reader = case.reader();
-    let answer = SliceGroup::read(case.input, &mut reader, case.b, geometry(case), &mut room);
+pub(crate) fn groups_right(case: Case, lent: &mut Lent) -> bool {
     let (output, ids) = cut(case.output, 104);
+    let room = lent.room(ids);
+    let mut reader = case.reader();
+    let answer = SliceGroup::read(case.input, &mut reader, case.b, geometry(case), room);
     case.numbered(&answer)
         && reader.at.0 == case.y as usize
         && answer.map_or(true, |r| {

@@ -11,22 +11,22 @@ mod groups;
 
 use bits_cases::{more_right, read_right, signed, write_right};
 use bytes::byte;
-use case::{Call, Case, Cases};
+use case::{Call, Case, Cases, Lent};
 use std::rt::Files;
 use std::{fs, io};
 
 // Whether a call answers as the original did.
-fn right(case: Case) -> bool {
+fn right(case: Case, lent: &mut Lent) -> bool {
     let Ok(call) = Call::try_from(case.call) else {
         return false;
     };
     let Case { input, b, c, y, .. } = case;
     // Each case goes to its own call, as recorded. The calls differ in what they take: a table of closures would be no plainer.
     match call {
-        Call::ReaderPushes => escaping::reader_right(case),
-        Call::WriterPushes => escaping::writer_right(case),
-        Call::DecodeNal => escaping::decoded_right(case),
-        Call::Framing => framing::right(case),
+        Call::ReaderPushes => escaping::reader_right(case, lent),
+        Call::WriterPushes => escaping::writer_right(case, lent),
+        Call::DecodeNal => escaping::decoded_right(case, lent),
+        Call::Framing => framing::right(case, lent),
         Call::Read => read_right(case, y, |reader| reader.read(input, b)),
         Call::ReadBit => read_right(case, y, |reader| reader.read_bit(input).map(u32::from)),
         Call::ReadUe => read_right(case, y, |reader| reader.read_ue(input)),
@@ -35,18 +35,24 @@ fn right(case: Case) -> bool {
         Call::HasMoreRbspData => more_right(case),
         Call::FinishRbsp => case.numbered(&case.reader().finish_rbsp(input)),
         Call::FinishSeiPayload => case.numbered(&case.reader().finish_sei_payload(input)),
-        Call::Write => write_right(case, |writer, room| writer.write(room, byte(input), c)),
-        Call::WriteBit => write_right(case, |writer, room| writer.write_bit(room, c == 1)),
-        Call::WriteUe => write_right(case, |writer, room| writer.write_ue(room, c)),
+        Call::Write => write_right(
+            case,
+            lent,
+            |writer, room| writer.write(room, byte(input), c),
+        ),
+        Call::WriteBit => write_right(case, lent, |writer, room| writer.write_bit(room, c == 1)),
+        Call::WriteUe => write_right(case, lent, |writer, room| writer.write_ue(room, c)),
         Call::WriteSe => write_right(
             case,
+            lent,
             |writer, room| writer.write_se(room, signed(byte(input) == 1, c)),
         ),
         Call::WriteTrailing => write_right(
             case,
+            lent,
             |writer, room| writer.write_rbsp_trailing_bits(room),
         ),
-        Call::SliceGroup => groups::groups_right(case),
+        Call::SliceGroup => groups::groups_right(case, lent),
         Call::SliceRect => groups::rect_right(case),
         Call::NumRefIdx => read_right(case, y, |reader| pps::read_num_ref_idx(input, reader)),
     }
@@ -56,6 +62,7 @@ fn right(case: Case) -> bool {
 // turns are counted: none comes to 2^64 of them.
 fn replay(rt: &(impl Files + Print), name: &str, path: &str) -> io::Result<()> {
     let mut file = Cases::new(fs::open(rt, path)?);
+    let mut lent = Lent::new();
     let mut cases = 0u64;
     let mut differences = 0u64;
     for _ in 0..u64::MAX {
@@ -67,7 +74,7 @@ fn replay(rt: &(impl Files + Print), name: &str, path: &str) -> io::Result<()> {
             break;
         };
         cases = cases.saturating_add(1);
-        if !right(case) {
+        if !right(case, &mut lent) {
             differences = differences.saturating_add(1);
         }
     }
