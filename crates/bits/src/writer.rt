@@ -10,7 +10,7 @@ use super::golomb::{prefix_len, unsigned_of};
 use super::{BitWriter, BytePos};
 use desk::Refusal;
 
-// The K low bytes of y, from a place on. So many that the compiler knows, since a copy of as many as only a run tells is a call, and of a name that the
+// The K low bytes of y, from a place on. K is known to the compiler: a copy of as many bytes as only a run tells is a call, of a name that the
 // archive for C would need from outside.
 fn low_bytes<const K: usize>(out: &mut [u8], at: BytePos, y: u64)
     requires { (at.0 + K ≤ length out.old) × (K ≤ 8) × (length out.old ≤ most) }

@@ -12,7 +12,8 @@ use Rattle.lister.proofs.Listing.list_some.Goals.{After-hand_out}
 pub unwrap-called-requires : goal.unwrap-called-requires
 unwrap-called-requires c =
     let m = c.args.self.now in
-    let done = push_passes m.progress.reader (length c.args.room.now) (length m.marks) m.good (omega arith) (omega arith) c.args.chunk.now c.requires.few in
+    let room = c.args.room.now in
+    let done = push_passes m.progress.reader (length room) (length m.marks) m.good (omega arith) (omega arith) c.args.chunk.now c.requires.few in
     not_refused c.push.result (c.push.ensures.number_is ∙ done)
 
 pub invariant_of-self : goal.invariant_of-self
@@ -29,8 +30,8 @@ came_to : (c : After-hand_out) (r : Result ℕ Failure) → MatchResult r (λ n.
 came_to c r =
     let m = c.args.self.now in
     let t = c.tell.ensures in
-    some_listed m.progress c.tell.new.self.progress c.args.room.now m.marks t.tallied c.args.chunk.now m.good (omega arith) (omega arith) c.requires.in_bounds
-    c.requires.few (rw (c.unwrap-called.ensures, sym t.reader) at c.push.ensures) (c.deref.ensures.0 ∙ t.text)
+    some_listed m.progress c.tell.new.self.progress c.args.room.now m.marks t.tallied c.args.chunk.now m.good (omega arith) (omega arith)
+    c.requires.in_bounds c.requires.few (rw (c.unwrap-called.ensures, sym t.reader) at c.push.ensures) (c.deref.ensures.0 ∙ t.text)
     (rw t.system at c.hand_out.ensures.handed_out.handed)
 
 pub returns-in_err-hand_out-clause-some_listed : goal.returns-in_err-hand_out-clause-some_listed
